@@ -164,6 +164,12 @@ pub struct Answer {
 }
 
 impl Answer {
+    /// For a command that is no call.
+    pub fn none() -> Answer {
+        let outcome = Outcome::Done { word: String::new(), numbers: Vec::new() };
+        Answer { name: String::new(), outcome, ops: Vec::new(), digests: Vec::new() }
+    }
+
     /// `None` if the line is not of REPLAY.md's form.
     pub fn parse(line: &str) -> Option<Answer> {
         let mut tokens = line.split(' ').peekable();
