@@ -26,9 +26,6 @@ use std::time::{Duration, Instant};
 /// Ops of a successful recover.
 const RECOVER_OPS: usize = 11;
 const RECOVER_WORDS: u64 = (OP_WORDS * RECOVER_OPS) as u64;
-/// All images of a crash are tried if there are at most this many, else some.
-const MOST_IMAGES: usize = 200;
-const SAMPLED_IMAGES: usize = 24;
 
 /// A program that speaks REPLAY.md on standard input and output.
 #[derive(Clone, Debug)]
@@ -194,6 +191,8 @@ struct History<'a> {
     log: AbstractLog,
     /// Lengths this history uses. A few only, so that old and new records come to lie alike.
     lengths: Vec<u64>,
+    /// Steps the last walk took, likely those the next one takes.
+    usual_walk: usize,
 }
 
 impl<'a> History<'a> {
@@ -211,6 +210,7 @@ impl<'a> History<'a> {
             device: Device::new(&[]),
             log: AbstractLog::default(),
             lengths: Vec::new(),
+            usual_walk: 1,
         }
     }
 
@@ -303,7 +303,8 @@ impl<'a> History<'a> {
             answer.ops[..some].iter().for_each(|&op| device.carry_out(op));
             let mut log = self.log.clone();
             log.feed(&call, &answer, some);
-            self.probe(&device, &log).map_err(|what| describe(&call, some, all, &what))?;
+            self.probe(&device, &log, Effort::SMALL)
+                .map_err(|what| describe(&call, some, all, &what))?;
         }
         self.carry_out(&answer.ops);
         self.log.feed(&call, &answer, all);
@@ -313,7 +314,7 @@ impl<'a> History<'a> {
     /// Power fails, and perhaps again while recovering.
     fn crash(&mut self) -> Result<(), String> {
         loop {
-            let images = self.probe(&self.device.clone(), &self.log.clone())?;
+            let images = self.probe(&self.device.clone(), &self.log.clone(), Effort::FULL)?;
             let image = &images[self.rng.below(images.len() as u64) as usize];
             self.device = Device::new(image);
             let load = self.subject.load(image);
@@ -344,9 +345,14 @@ impl<'a> History<'a> {
     }
 
     /// Tries images that a crash of this device can leave, and gives them.
-    fn probe(&mut self, device: &Device, log: &AbstractLog) -> Result<Vec<Vec<u64>>, String> {
+    fn probe(
+        &mut self,
+        device: &Device,
+        log: &AbstractLog,
+        effort: Effort,
+    ) -> Result<Vec<Vec<u64>>, String> {
         self.report.crashes += 1;
-        let images = crash_images(&mut self.rng, &device.crash_values());
+        let images = crash_images(&mut self.rng, &device.crash_values(), effort);
         for image in &images {
             self.report.images += 1;
             self.check_image(image, log)?;
@@ -357,22 +363,30 @@ impl<'a> History<'a> {
     /// Demand 3 for one crash image.
     fn check_image(&mut self, image: &[u64], log: &AbstractLog) -> Result<(), String> {
         let load = self.prober.load(image);
-        self.prober.ask(&load)?;
-        let walked = self.walk()?;
-        log.check(&walked)?;
+        let (_, mut walked) = self.walk_after(load)?;
 
-        if self.rng.chance(1, 4) {
+        let mut commands = fetches(&walked);
+        let short_first = self.rng.chance(1, 4);
+        if short_first {
             let words = self.rng.below(RECOVER_WORDS);
-            let short = [Command::OpBuffer { words, value: 1 }, Command::Recover];
-            let answers = self.prober.calls(&short)?;
-            expect_short(&answers[0])?;
+            commands.extend([Command::OpBuffer { words, value: 1 }, Command::Recover]);
         }
-        let enough = [Command::OpBuffer { words: RECOVER_WORDS, value: 2 }, Command::Recover];
-        let answers = self.prober.calls(&enough)?;
-        expect_recovered(&answers[0])?;
+        commands.extend([
+            Command::OpBuffer { words: RECOVER_WORDS, value: 2 },
+            Command::Recover,
+        ]);
+        let (answers, mut left) = self.walk_after(commands)?;
+        let (fetched, recovered) = answers.split_at(walked.len());
+        take_bytes(&mut walked, fetched)?;
+        log.check(&walked)?;
+        if short_first {
+            expect_short(&recovered[0])?;
+        }
+        expect_recovered(&recovered[recovered.len() - 1])?;
 
         // Recovering takes nothing away but leading released records.
-        let left = self.walk()?;
+        let fetched = self.prober.calls(&fetches(&left))?;
+        take_bytes(&mut left, &fetched)?;
         let kept = walked.iter().skip_while(|record| record.mark == MARK_RELEASED);
         if !kept.eq(&left) {
             return Err(format!("walked before recover: {walked:?}, after: {left:?}"));
@@ -380,17 +394,25 @@ impl<'a> History<'a> {
         Ok(())
     }
 
-    /// All that open, next and fetch give on the prober's image.
-    fn walk(&mut self) -> Result<Vec<WalkedRecord>, String> {
-        let opened = self.prober.call(&Command::Open)?;
+    /// Sends `commands`, then walks from open on. Gives the answers of `commands` and the records
+    /// walked, their bytes still to be fetched.
+    fn walk_after(
+        &mut self,
+        mut commands: Vec<Command>,
+    ) -> Result<(Vec<Answer>, Vec<WalkedRecord>), String> {
+        let before = commands.iter().filter(|command| command.answers()).count();
+        commands.push(Command::Open);
+        // At the end next stays there, so some too many do no harm.
+        commands.resize(commands.len() + self.usual_walk, Command::Next);
+        let mut answers = self.prober.calls(&commands)?;
+        let mut steps = answers.split_off(before);
+        let opened = steps.remove(0);
         if opened.numbers("ok").is_none() {
             return Err(format!("open is refused: {:?}", opened.outcome));
         }
         let mut walked = Vec::new();
-        'walk: loop {
-            // At the end next stays there, so some too many do no harm.
-            let several = vec![Command::Next; 4];
-            for answer in self.prober.calls(&several)? {
+        loop {
+            for answer in &steps {
                 match (&answer.outcome, answer.numbers("record")) {
                     (_, Some(&[position, lsn, kind, length, mark])) => walked.push(WalkedRecord {
                         position,
@@ -400,30 +422,18 @@ impl<'a> History<'a> {
                         mark,
                         bytes_digest: 0,
                     }),
-                    (Outcome::Done { word, .. }, _) if word == "end" => break 'walk,
+                    (Outcome::Done { word, .. }, _) if word == "end" => {
+                        self.usual_walk = walked.len() + 1;
+                        return Ok((answers, walked));
+                    }
                     (outcome, _) => return Err(format!("the walk ends with {outcome:?}")),
                 }
             }
             if walked.len() > TABLE_SIZE {
                 return Err("the walk does not end".to_string());
             }
+            steps = self.prober.calls(&[Command::Next, Command::Next])?;
         }
-        let fetches: Vec<Command> = walked
-            .iter()
-            .map(|&WalkedRecord { position, length, .. }| Command::Fetch {
-                position,
-                length,
-                output: length,
-            })
-            .collect();
-        let answers = self.prober.calls(&fetches)?;
-        for (record, answer) in walked.iter_mut().zip(answers) {
-            match answer.digests[..] {
-                [_, _, _, output] if !answer.is_refused() => record.bytes_digest = output,
-                _ => return Err(format!("fetch of record {} is refused", record.lsn)),
-            }
-        }
-        Ok(walked)
     }
 
     // ------------------------------------------------------------ choosing calls
@@ -446,6 +456,7 @@ impl<'a> History<'a> {
             }
             12..=14 if !committed.is_empty() => Command::Release { lsn: rng.pick(&committed) },
             15 if rng.chance(1, 4) => Command::ReleaseAll,
+            17 if rng.chance(1, 8) => Command::Recover, // without a crash
             16 if rng.chance(1, 3) => {
                 // Mostly refused.
                 let lsn = rng.pick(&[0, view.head_lsn, view.committed_lsn, view.next_lsn, u64::MAX]);
@@ -493,10 +504,26 @@ impl<'a> History<'a> {
     }
 }
 
+/// How many of a crash's images to try.
+#[derive(Clone, Copy)]
+struct Effort {
+    /// All, if there are at most this many,
+    all_up_to: usize,
+    /// else so many random ones.
+    samples: usize,
+}
+
+impl Effort {
+    /// For power that does fail.
+    const FULL: Effort = Effort { all_up_to: 300, samples: 30 };
+    /// For power that might have failed.
+    const SMALL: Effort = Effort { all_up_to: 16, samples: 6 };
+}
+
 /// All images, or some, that the words' values make possible.
-fn crash_images(rng: &mut Rng, values: &[Vec<u64>]) -> Vec<Vec<u64>> {
+fn crash_images(rng: &mut Rng, values: &[Vec<u64>], effort: Effort) -> Vec<Vec<u64>> {
     let total = values.iter().fold(1_usize, |total, values| total.saturating_mul(values.len()));
-    if total <= MOST_IMAGES {
+    if total <= effort.all_up_to {
         let image = |mut number: usize| {
             let word = |values: &Vec<u64>| {
                 let digit = number % values.len();
@@ -507,22 +534,38 @@ fn crash_images(rng: &mut Rng, values: &[Vec<u64>]) -> Vec<Vec<u64>> {
         };
         return (0..total).map(image).collect();
     }
-    let sample = |sample: usize| {
-        // Nothing got through, all did, mostly not, mostly, half.
-        let share = match sample {
-            0 => 0,
-            1 => 16,
-            _ => rng.pick(&[2, 8, 8, 14]),
-        };
+    let sample = |_| {
+        // Of 16 words with a choice, so many hold something newer than their flushed value.
+        let newer = rng.pick(&[0, 2, 8, 8, 14, 16]);
+        let newest = rng.chance(1, 3);
         let word = |values: &Vec<u64>| match values.len() as u64 {
             1 => values[0],
-            _ if !rng.chance(share, 16) => values[0],
-            count if sample == 1 => values[count as usize - 1],
+            _ if !rng.chance(newer, 16) => values[0],
+            count if newest => values[count as usize - 1],
             count => values[rng.between(1, count - 1) as usize],
         };
         values.iter().map(word).collect()
     };
-    (0..SAMPLED_IMAGES).map(sample).collect()
+    (0..effort.samples).map(sample).collect()
+}
+
+fn fetches(walked: &[WalkedRecord]) -> Vec<Command> {
+    let fetch = |record: &WalkedRecord| {
+        let &WalkedRecord { position, length, .. } = record;
+        Command::Fetch { position, length, output: length }
+    };
+    walked.iter().map(fetch).collect()
+}
+
+/// Notes what the fetches gave.
+fn take_bytes(walked: &mut [WalkedRecord], fetched: &[Answer]) -> Result<(), String> {
+    for (record, answer) in walked.iter_mut().zip(fetched) {
+        match answer.digests[..] {
+            [_, _, _, output] if !answer.is_refused() => record.bytes_digest = output,
+            _ => return Err(format!("fetch of record {} is refused", record.lsn)),
+        }
+    }
+    Ok(())
 }
 
 fn expect_recovered(answer: &Answer) -> Result<(), String> {

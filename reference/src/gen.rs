@@ -164,9 +164,7 @@ impl Generator {
             for _ in 0..self.rng.below(12) {
                 self.step();
             }
-            if self.machine.state.is_sound() {
-                self.break_state_repeatedly();
-            }
+            self.break_state_repeatedly();
         }
     }
 
@@ -506,8 +504,12 @@ impl Generator {
 
     /// A call with a state, its numbers mostly sensible for the present one.
     fn state_call(&mut self) -> Command {
+        let nothing_open = self.live_in(Stage::Open).is_empty();
         match self.rng.below(20) {
             0..=4 => Command::Reserve { kind: self.kind(), length: self.length() },
+            5..=7 if nothing_open => {
+                Command::Reserve { kind: self.kind(), length: self.length() }
+            }
             5..=8 => self.copy_call(),
             9..=12 => Command::Complete { lsn: self.lsn_in(Stage::Open) },
             13..=15 => Command::Force { lsn: self.force_target(), frequency: self.frequency() },
@@ -665,6 +667,9 @@ impl Generator {
     /// Calls with states that differ from the present one in a field or an entry.
     fn break_state_repeatedly(&mut self) {
         let good = self.machine.state.clone();
+        if !good.is_sound() {
+            return;
+        }
         for _ in 0..self.rng.between(5, 20) {
             let mut calls: Vec<Command> = (0..2).map(|_| self.state_call()).collect();
             if self.rng.chance(1, 4) {
@@ -872,7 +877,7 @@ impl Generator {
         }
         let first = self.machine.state.committed_lsn.saturating_add(1);
         let complete = self.live_in(Stage::Complete);
-        let last = (first..).zip(complete).take_while(|&(lsn, found)| lsn == found).last();
+        let last = complete.into_iter().zip(first..).take_while(|(found, lsn)| found == lsn).last();
         match last {
             Some((lsn, _)) => lsn,
             None => self.any_lsn(),
