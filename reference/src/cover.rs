@@ -47,7 +47,9 @@ impl Coverage {
     }
 
     fn count(&mut self, line: &str) {
-        let Some(answer) = Answer::parse(line) else { return };
+        let Some(answer) = Answer::parse(line) else {
+            return;
+        };
         let call = REACHABLE.iter().position(|(name, _)| *name == answer.name);
         let call = call.expect("only calls have answers");
         let column = match answer.outcome {
@@ -86,9 +88,9 @@ impl Coverage {
         text.push('\n');
         for ((name, refusals), counts) in REACHABLE.iter().zip(&self.counts) {
             let _ = write!(text, "{name:<10} {:>7}", counts[0]);
-            for number in 1..=REFUSALS {
-                if refusals.contains(&number) || counts[number] > 0 {
-                    let _ = write!(text, " {:>6}", counts[number]);
+            for (number, &count) in counts.iter().enumerate().skip(1) {
+                if refusals.contains(&number) || count > 0 {
+                    let _ = write!(text, " {count:>6}");
                 } else {
                     let _ = write!(text, " {:>6}", ".");
                 }

@@ -12,8 +12,8 @@ use crate::abstract_log::{AbstractLog, WalkedRecord};
 use crate::device::Device;
 use crate::gen::ROOMY_OP_BUFFER;
 use crate::layout::{
-    record_check, record_size, Header, FIRST_RING_WORD, HEADER_WORDS, MARK_COMMITTED, MARK_RELEASED,
-    MAX_KIND, TABLE_SIZE,
+    record_check, record_size, Header, FIRST_RING_WORD, HEADER_WORDS, MARK_COMMITTED,
+    MARK_RELEASED, MAX_KIND, TABLE_SIZE,
 };
 use crate::ops::{Op, OP_WORDS};
 use crate::rng::Rng;
@@ -21,11 +21,15 @@ use crate::script::{digest, Answer, Command, Outcome};
 use std::io::{self, BufRead, BufReader, BufWriter, Write};
 use std::path::PathBuf;
 use std::process::{Child, ChildStdin, ChildStdout, Command as Process, Stdio};
+use std::sync::mpsc;
+use std::thread;
 use std::time::{Duration, Instant};
 
 /// Ops of a successful recover.
 const RECOVER_OPS: usize = 11;
 const RECOVER_WORDS: u64 = (OP_WORDS * RECOVER_OPS) as u64;
+
+const FIRST_ANSWER_WITHIN: Duration = Duration::from_secs(10);
 
 /// A program that speaks REPLAY.md on standard input and output.
 #[derive(Clone, Debug)]
@@ -83,15 +87,15 @@ impl Replayer {
             .stdin(Stdio::piped())
             .stdout(Stdio::piped())
             .spawn()?;
-        let missing = || io::Error::new(io::ErrorKind::Other, "the child has no pipe");
-        let input = process.stdin.take().ok_or_else(missing)?;
+        let missing = || io::Error::other("the child has no pipe");
+        let mut input = process.stdin.take().ok_or_else(missing)?;
         let output = process.stdout.take().ok_or_else(missing)?;
-        Ok(Replayer {
-            process,
-            input: BufWriter::new(input),
-            output: BufReader::new(output),
-            image: Vec::new(),
-        })
+        let Some(output) = first_answer(&mut input, output)? else {
+            let _ = process.kill();
+            let _ = process.wait();
+            return Err(io::Error::other("the program does not answer each command at once"));
+        };
+        Ok(Replayer { process, input: BufWriter::new(input), output, image: Vec::new() })
     }
 
     /// Sends commands and reads the line of each that has one.
@@ -173,6 +177,25 @@ impl Replayer {
     }
 }
 
+/// Asks for the state and waits for it. `None` if the program waits too: for the end of its input.
+fn first_answer(
+    input: &mut ChildStdin,
+    output: ChildStdout,
+) -> io::Result<Option<BufReader<ChildStdout>>> {
+    let words = Command::State.encode();
+    let bytes: Vec<u8> = words.into_iter().flat_map(u64::to_le_bytes).collect();
+    input.write_all(&bytes)?;
+    let (sender, receiver) = mpsc::channel();
+    thread::spawn(move || {
+        let mut output = BufReader::new(output);
+        if output.read_line(&mut String::new()).is_ok() {
+            // Nobody may be waiting any more.
+            let _ = sender.send(output);
+        }
+    });
+    Ok(receiver.recv_timeout(FIRST_ANSWER_WITHIN).ok())
+}
+
 impl Drop for Replayer {
     fn drop(&mut self) {
         let _ = self.process.kill();
@@ -228,6 +251,8 @@ impl<'a> History<'a> {
         self.lengths = (0..kinds_of_length).map(|_| self.rng.pick(&lengths)).collect();
         if many_records {
             self.lengths.push(0);
+        } else if words >= 200 {
+            self.lengths.push(self.rng.pick(&[200, 500, 1_023, 1_024]));
         }
         let steps = if many_records { 5 * TABLE_SIZE as u64 } else { self.rng.between(8, 50) };
 
@@ -284,8 +309,8 @@ impl<'a> History<'a> {
     /// One call, which power may fail in.
     fn step(&mut self, many_records: bool) -> Result<(), String> {
         let state = self.subject.ask(&[Command::State])?;
-        let view = StateView::parse(&state[0])
-            .ok_or_else(|| format!("not a state: {}", state[0]))?;
+        let view =
+            StateView::parse(&state[0]).ok_or_else(|| format!("not a state: {}", state[0]))?;
         let call = self.choose(&view);
         let answer = self.subject.call(&call)?;
         let all = answer.ops.len();
@@ -371,10 +396,7 @@ impl<'a> History<'a> {
             let words = self.rng.below(RECOVER_WORDS);
             commands.extend([Command::OpBuffer { words, value: 1 }, Command::Recover]);
         }
-        commands.extend([
-            Command::OpBuffer { words: RECOVER_WORDS, value: 2 },
-            Command::Recover,
-        ]);
+        commands.extend([Command::OpBuffer { words: RECOVER_WORDS, value: 2 }, Command::Recover]);
         let (answers, mut left) = self.walk_after(commands)?;
         let (fetched, recovered) = answers.split_at(walked.len());
         take_bytes(&mut walked, fetched)?;
@@ -459,7 +481,8 @@ impl<'a> History<'a> {
             17 if rng.chance(1, 8) => Command::Recover, // without a crash
             16 if rng.chance(1, 3) => {
                 // Mostly refused.
-                let lsn = rng.pick(&[0, view.head_lsn, view.committed_lsn, view.next_lsn, u64::MAX]);
+                let lsn =
+                    rng.pick(&[0, view.head_lsn, view.committed_lsn, view.next_lsn, u64::MAX]);
                 match rng.below(4) {
                     0 => Command::Complete { lsn },
                     1 => Command::Force { lsn, frequency: 1 },
@@ -624,7 +647,9 @@ impl StateView {
             entries: [(0, 0); TABLE_SIZE],
         };
         for entry in numbers[8..].chunks(5) {
-            let &[index, _position, length, _kind, stage] = entry else { return None };
+            let &[index, _position, length, _kind, stage] = entry else {
+                return None;
+            };
             *view.entries.get_mut(index as usize)? = (length, stage);
         }
         let live = view.next_lsn.checked_sub(view.head_lsn)?;

@@ -260,7 +260,9 @@ impl Generator {
         let steps = self.rng.between(10, 60);
         self.history(words, steps);
         let good = self.machine.image.clone();
-        let Ok((records, end)) = crate::calls::walk(&good) else { return };
+        let Ok((records, end)) = crate::calls::walk(&good) else {
+            return;
+        };
         let ring = Ring::of_image(&good).expect("a history's image has a good size");
         for _ in 0..12 {
             let (position, length) = match records.len() as u64 {
@@ -289,7 +291,8 @@ impl Generator {
                 }
                 _ => {
                     let lsn = ring.read(&good, position, 1);
-                    let value = self.rng.pick(&[0, lsn.wrapping_sub(1), lsn.wrapping_add(1), LSN_LIMIT]);
+                    let value =
+                        self.rng.pick(&[0, lsn.wrapping_sub(1), lsn.wrapping_add(1), LSN_LIMIT]);
                     self.send(Command::Poke { word: ring.word(position, 1), value });
                     let header = Header::of_word(ring.read(&good, position, 0));
                     self.poke_header_with_check(ring, position, header);
@@ -348,7 +351,8 @@ impl Generator {
                 2 => cursor.used = self.rng.pick(&edges),
                 3 => {
                     let table_size = TABLE_SIZE as u64;
-                    cursor.count = self.rng.pick(&[table_size - 1, table_size, table_size + 1, u64::MAX]);
+                    cursor.count =
+                        self.rng.pick(&[table_size - 1, table_size, table_size + 1, u64::MAX]);
                 }
                 4 => {
                     cursor.used = self.rng.below(capacity);
@@ -376,10 +380,7 @@ impl Generator {
     fn noise(&mut self) {
         for _ in 0..self.rng.between(10, 60) {
             let command = match self.rng.below(19) {
-                0 => Command::Image {
-                    words: self.rng.between(38, 100),
-                    value: self.number(),
-                },
+                0 => Command::Image { words: self.rng.between(38, 100), value: self.number() },
                 1 => Command::Poke { word: self.rng.below(120), value: self.number() },
                 2 => Command::OpBuffer { words: self.rng.below(500), value: self.number() },
                 3 => Command::Field { field: self.rng.below(10), value: self.number() },
@@ -507,9 +508,7 @@ impl Generator {
         let nothing_open = self.live_in(Stage::Open).is_empty();
         match self.rng.below(20) {
             0..=4 => Command::Reserve { kind: self.kind(), length: self.length() },
-            5..=7 if nothing_open => {
-                Command::Reserve { kind: self.kind(), length: self.length() }
-            }
+            5..=7 if nothing_open => Command::Reserve { kind: self.kind(), length: self.length() },
             5..=8 => self.copy_call(),
             9..=12 => Command::Complete { lsn: self.lsn_in(Stage::Open) },
             13..=15 => Command::Force { lsn: self.force_target(), frequency: self.frequency() },
@@ -573,7 +572,9 @@ impl Generator {
 
     /// Cuts power within a call, puts one of the possible images in and recovers from it.
     fn crash(&mut self) {
-        let Some(mut device) = self.device.take() else { return };
+        let Some(mut device) = self.device.take() else {
+            return;
+        };
         let command = match self.rng.below(8) {
             0 => Command::Recover,
             _ => self.writing_call(),
@@ -636,7 +637,9 @@ impl Generator {
             let room = capacity - 1 - used;
             if record_size(length) > room {
                 // Fill the ring to its last word.
-                let Some(words) = room.checked_sub(HEADER_WORDS) else { break };
+                let Some(words) = room.checked_sub(HEADER_WORDS) else {
+                    break;
+                };
                 length = 8 * words;
             }
             if state.next_lsn == LSN_LIMIT {
@@ -817,7 +820,9 @@ impl Generator {
 
     /// Puts a marked record where the cursor of a finished walk stands, then walks and recovers.
     fn forge_record_at_end(&mut self) {
-        let Some(ring) = Ring::of_image(&self.machine.image) else { return };
+        let Some(ring) = Ring::of_image(&self.machine.image) else {
+            return;
+        };
         let good = self.machine.image.clone();
         let cursor = self.machine.cursor;
         if cursor.position >= ring.capacity() {
@@ -947,11 +952,8 @@ impl Generator {
     /// Writes a writing call down; now and then first with too short an op buffer, then with a just
     /// sufficient one.
     fn call(&mut self, command: Command) -> Answer {
-        let mut answer = if self.rng.chance(1, 6) {
-            self.call_with_tight_op_buffers(&command)
-        } else {
-            None
-        };
+        let mut answer =
+            if self.rng.chance(1, 6) { self.call_with_tight_op_buffers(&command) } else { None };
         if answer.is_none() {
             answer = Some(self.send(command));
         }

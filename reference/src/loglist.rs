@@ -21,7 +21,7 @@ pub fn loglist(bytes: &[u8]) -> String {
 }
 
 fn list(bytes: &[u8]) -> Result<String, Refusal> {
-    if bytes.len() % 8 != 0 {
+    if !bytes.len().is_multiple_of(8) {
         return Err(Refusal::ImageSize);
     }
     let image: Vec<u64> = bytes
@@ -37,7 +37,8 @@ fn list(bytes: &[u8]) -> Result<String, Refusal> {
                     let mut payload = vec![0; record.length as usize];
                     fetch(&image, record.position, record.length, &mut payload)?;
                     let data = hex(&payload);
-                    let _ = writeln!(text, "{} {} {} {data}", record.lsn, record.kind, record.length);
+                    let _ =
+                        writeln!(text, "{} {} {} {data}", record.lsn, record.kind, record.length);
                 }
                 cursor = behind;
             }

@@ -71,19 +71,27 @@ fn run(args: &[&str]) -> io::Result<ExitCode> {
 }
 
 fn crash(seconds: &str, options: &[&str]) -> io::Result<ExitCode> {
-    let mut program = Program { path: std::env::current_exe()?, args: vec!["replay".to_string()] };
+    let mut other_program = None;
+    let mut replay_args = vec!["replay".to_string()];
     let mut seed = 1;
     for option in options.chunks(2) {
         match *option {
-            ["--program", path] => program = Program { path: PathBuf::from(path), args: Vec::new() },
+            ["--program", path] => other_program = Some(PathBuf::from(path)),
             ["--seed", number] => seed = parse(number)?,
             ["--shortcut", number] => {
                 shortcut(number)?;
-                program.args.extend(["--shortcut".to_string(), number.to_string()]);
+                replay_args.extend(["--shortcut".to_string(), number.to_string()]);
             }
             _ => return Err(invalid(format!("not an option: {}", option.join(" ")))),
         }
     }
+    let program = match other_program {
+        Some(_) if replay_args.len() > 1 => {
+            return Err(invalid("another program takes no short cut".to_string()));
+        }
+        Some(path) => Program { path, args: Vec::new() },
+        None => Program { path: std::env::current_exe()?, args: replay_args },
+    };
     let report = crash_bench(&program, seed, Duration::from_secs(parse(seconds)?))?;
     if let Some(failure) = &report.failure {
         println!("seed {}: {}", failure.seed, failure.what);

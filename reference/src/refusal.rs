@@ -21,11 +21,19 @@ pub enum Refusal {
     TableFull,
     NoRoom,
     /// Force: `lsn` is open. Release all: `lsn` is not committed.
-    NotReady { lsn: u64 },
-    Damaged { lsn: u64 },
-    TooMany { lsn: u64 },
+    NotReady {
+        lsn: u64,
+    },
+    Damaged {
+        lsn: u64,
+    },
+    TooMany {
+        lsn: u64,
+    },
     OutputShort,
-    OpBufferShort { needed: u64 },
+    OpBufferShort {
+        needed: u64,
+    },
 }
 
 impl Refusal {

@@ -148,9 +148,15 @@ impl Command {
 /// What a call answered.
 #[derive(Clone, Debug, PartialEq, Eq)]
 pub enum Outcome {
-    Refused { number: u64, detail: u64 },
+    Refused {
+        number: u64,
+        detail: u64,
+    },
     /// `ok`, `kept`, `putoff`, `record` or `end`, with the numbers behind it.
-    Done { word: String, numbers: Vec<u64> },
+    Done {
+        word: String,
+        numbers: Vec<u64>,
+    },
 }
 
 /// The line of one of the eleven calls, read back.

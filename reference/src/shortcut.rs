@@ -38,11 +38,7 @@ impl Shortcut {
     }
 }
 
-pub fn next(
-    shortcut: Option<Shortcut>,
-    image: &[u64],
-    cursor: &Cursor,
-) -> Result<Next, Refusal> {
+pub fn next(shortcut: Option<Shortcut>, image: &[u64], cursor: &Cursor) -> Result<Next, Refusal> {
     let found = calls::next(image, cursor)?;
     match (shortcut, found) {
         (Some(Shortcut::WalkEndsAtReleased), Next::Record { record, .. })

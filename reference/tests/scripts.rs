@@ -2,6 +2,7 @@
 
 use reference::cover::Coverage;
 use reference::gen::script;
+use reference::layout::TABLE_SIZE;
 use reference::replay::replay;
 
 fn run(bytes: &[u8]) -> String {
@@ -19,7 +20,8 @@ fn a_small_script() {
     // Image of 40 words, op buffer of 33, format, state, some words.
     let output = run_words(&[1, 40, 0, 3, 33, 0, 10, 31, 30, 0, 3, 30, 38, 9, 30, 40, 1, 20, 21]);
     let lines: Vec<&str> = output.lines().collect();
-    assert!(lines[0].starts_with("format ok orders 11 s 8 4294967336 s 9 16 s 10 0 s 11 1 s 12 1 s 13 "));
+    assert!(lines[0]
+        .starts_with("format ok orders 11 s 8 4294967336 s 9 16 s 10 0 s 11 1 s 12 1 s 13 "));
     assert_eq!(lines[1], "state 16 0 1 0 1 0 0 1");
     assert_eq!(lines[2..5], ["words 0 0 0", "words 0 0", "words"]);
     assert!(lines[5].starts_with("open ok 0 1 0 0 = "));
@@ -29,18 +31,19 @@ fn a_small_script() {
 
 #[test]
 fn digests() {
-    // No words at all: 7 each for image and op buffer. The state: 264 zeros.
-    let zeros = (0..264).fold(7_u64, |hash, _| hash * 31 % 2_147_483_647);
+    // No words at all: 7 each for image and op buffer. The state: all zeros.
+    let zeros = (0..8 + 4 * TABLE_SIZE).fold(7_u64, |hash, _| hash * 31 % 2_147_483_647);
     assert_eq!(run_words(&[10]), format!("format refused 1 0 orders 0 = 7 7 {zeros}\n"));
     let output = (0..2).fold(7_u64, |hash, _| hash * 31 + 238);
     assert_eq!(run_words(&[22, 0, 0, 2]), format!("fetch refused 1 0 = 7 7 {zeros} {output}\n"));
-    let big = (7 * 31 + u64::MAX % 2_147_483_647) % 2_147_483_647;
+    let big = 7 * 31 + u64::MAX % 2_147_483_647; // below the prime already
     assert_eq!(run_words(&[1, 1, u64::MAX, 20]), format!("open refused 1 0 = {big} 7 {zeros}\n"));
 }
 
 #[test]
 fn states_by_field_and_entry() {
-    let output = run_words(&[4, 0, 5, 4, 7, 6, 4, 8, 9, 5, 66, 65_537, 2, 3, 4, 5, 3, 1, 1, 1, 5, 31]);
+    let output =
+        run_words(&[4, 0, 5, 4, 7, 6, 4, 8, 9, 5, 66, 65_537, 2, 3, 4, 5, 3, 1, 1, 1, 5, 31]);
     assert_eq!(output, "state 5 0 0 0 0 0 0 6 [2 1 2 3 4]\n");
 }
 
