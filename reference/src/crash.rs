@@ -492,7 +492,8 @@ impl<'a> History<'a> {
             }
             _ => {
                 let length = rng.pick(&self.lengths);
-                if record_size(length) < view.free_words() {
+                // Now and then even where there is no room.
+                if record_size(length) < view.free_words() || rng.chance(1, 6) {
                     Command::Reserve { kind: rng.between(1, MAX_KIND), length }
                 } else if !committed.is_empty() {
                     // The oldest, to make room.
