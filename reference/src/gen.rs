@@ -12,7 +12,9 @@ use crate::layout::{
 use crate::ops::OP_WORDS;
 use crate::replay::{entry_numbers, fields, Machine};
 use crate::rng::Rng;
-use crate::script::{Answer, Command, MAX_SCRIPT_BYTES, MAX_SCRIPT_IMAGE, MAX_SCRIPT_OP_BUFFER};
+use crate::script::{
+    Answer, Command, Parsed, MAX_SCRIPT_BYTES, MAX_SCRIPT_IMAGE, MAX_SCRIPT_OP_BUFFER,
+};
 use crate::state::{Entry, Stage, State};
 
 /// Op buffer words enough for every call: the longest reserve, a force of the whole table.
@@ -29,6 +31,34 @@ pub fn script(seed: u64) -> Vec<u8> {
         generator.chapter();
     }
     generator.finish()
+}
+
+/// The bytes of an image that the script of a seed has on its way: some are damaged in a word or two, a few cut short.
+pub fn image(seed: u64) -> Vec<u8> {
+    let mut rng = Rng::new(seed ^ 0x1A6E);
+    let bytes = script(seed);
+    let mut words =
+        bytes.chunks_exact(8).map(|word| u64::from_le_bytes(word.try_into().expect("eight bytes")));
+    let mut machine = Machine::default();
+    let mut seen = Vec::new();
+    while let Parsed::Command(command) = Command::parse(&mut words) {
+        machine.run(&command);
+        // Keep an image now and then, the later ones rather.
+        if machine.image.len() as u64 >= MIN_IMAGE_WORDS && (seen.is_empty() || rng.chance(1, 20)) {
+            seen = machine.image.clone();
+        }
+    }
+    if !seen.is_empty() && rng.chance(1, 3) {
+        for _ in 0..rng.between(1, 2) {
+            let word = rng.below(seen.len() as u64) as usize;
+            seen[word] ^= 1 << rng.below(64);
+        }
+    }
+    let mut bytes: Vec<u8> = seen.into_iter().flat_map(u64::to_le_bytes).collect();
+    if rng.chance(1, 20) {
+        bytes.truncate(rng.below(bytes.len() as u64 + 1) as usize);
+    }
+    bytes
 }
 
 struct Generator {

@@ -25,6 +25,7 @@ pub mod abstract_log;
 pub mod device;
 
 // Programs.
+pub mod compare;
 pub mod cover;
 pub mod crash;
 pub mod gen;

@@ -1,5 +1,6 @@
 //! The command line. `reference` alone says what there is.
 
+use reference::compare::compare;
 use reference::cover::Coverage;
 use reference::crash::{crash_bench, Program};
 use reference::gen;
@@ -17,6 +18,9 @@ usage: reference loglist                 list the image on standard input
        reference replay [--shortcut K]   run the script on standard input
        reference gen SEED                write one random script to standard output
        reference gen SEED N DIR          write N scripts as DIR/script-<seed>.bin
+       reference image SEED              write an image from that script, perhaps damaged
+       reference compare REPLAY LOGLIST SEED N
+                                         compare two other programs with ours on N seeds
        reference cover SEED N            count what N scripts reach
        reference crash SECONDS [--program PATH] [--seed S] [--shortcut K]
                                          cut power at random and check what is left
@@ -55,6 +59,32 @@ fn run(args: &[&str]) -> io::Result<ExitCode> {
                 let path = Path::new(directory).join(format!("script-{seed}.bin"));
                 fs::write(path, gen::script(seed))?;
             }
+        }
+        ["image", seed] => stdout.write_all(&gen::image(parse(seed)?))?,
+        ["compare", replay, loglist, seed, count] => {
+            let result =
+                compare(Path::new(replay), Path::new(loglist), parse(seed)?, parse(count)?)?;
+            if let Some(found) = &result.difference {
+                writeln!(
+                    stdout,
+                    "seed {}: {} differs in line {}",
+                    found.seed, found.what, found.line
+                )?;
+                writeln!(stdout, "reference: {}\nprogram:   {}", found.ours, found.theirs)?;
+            }
+            writeln!(
+                stdout,
+                "compare: {} scripts, {} lines, {} differences",
+                result.scripts,
+                result.lines,
+                result.difference.iter().count()
+            )?;
+            stdout.flush()?;
+            return Ok(if result.difference.is_none() {
+                ExitCode::SUCCESS
+            } else {
+                ExitCode::FAILURE
+            });
         }
         ["cover", seed, count] => {
             let coverage = Coverage::of_scripts(parse(seed)?, parse(count)?);
