@@ -3,6 +3,7 @@
 //! The generator carries each command out while it writes it down, so that it knows what is live, what
 //! fits and how many ops a call is going to have. The same seed gives the same script.
 
+use crate::calls::{self, Next};
 use crate::device::Device;
 use crate::layout::{
     record_check, record_size, Header, Ring, Superline, FIRST_RING_WORD, HEADER_WORDS, LSN_LIMIT,
@@ -41,11 +42,14 @@ pub fn image(seed: u64) -> Vec<u8> {
         bytes.chunks_exact(8).map(|word| u64::from_le_bytes(word.try_into().expect("eight bytes")));
     let mut machine = Machine::default();
     let mut seen = Vec::new();
+    let mut most = 0;
     while let Parsed::Command(command) = Command::parse(&mut words) {
         machine.run(&command);
-        // Keep an image now and then, the later ones rather.
-        if machine.image.len() as u64 >= MIN_IMAGE_WORDS && (seen.is_empty() || rng.chance(1, 20)) {
+        // The image with the most records, or now and then another one.
+        let records = records_in(&machine.image);
+        if records > most || rng.chance(1, 60) {
             seen = machine.image.clone();
+            most = records;
         }
     }
     if !seen.is_empty() && rng.chance(1, 3) {
@@ -59,6 +63,18 @@ pub fn image(seed: u64) -> Vec<u8> {
         bytes.truncate(rng.below(bytes.len() as u64 + 1) as usize);
     }
     bytes
+}
+
+/// How many records next gives from open on.
+fn records_in(image: &[u64]) -> usize {
+    let mut records = 0;
+    if let Ok(mut cursor) = calls::open(image) {
+        while let Ok(Next::Record { behind, .. }) = calls::next(image, &cursor) {
+            cursor = behind;
+            records += 1;
+        }
+    }
+    records
 }
 
 struct Generator {
