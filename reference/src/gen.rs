@@ -47,7 +47,7 @@ pub fn image(seed: u64) -> Vec<u8> {
         machine.run(&command);
         // The image with the most records, or now and then another one.
         let records = records_in(&machine.image);
-        if records > most || rng.chance(1, 60) {
+        if records > most || rng.chance(1, 2000) {
             seen = machine.image.clone();
             most = records;
         }
