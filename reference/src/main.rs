@@ -1,6 +1,6 @@
 //! The command line. `reference` alone says what there is.
 
-use reference::compare::compare;
+use reference::compare::{compare, compare_samples};
 use reference::cover::Coverage;
 use reference::crash::{crash_bench, Program};
 use reference::gen;
@@ -21,6 +21,7 @@ usage: reference loglist                 list the image on standard input
        reference image SEED              write an image from that script, perhaps damaged
        reference compare REPLAY LOGLIST SEED N
                                          compare two other programs with ours on N seeds
+       reference samples LOGLIST         run another loglist on images written word by word
        reference cover SEED N            count what N scripts reach
        reference crash SECONDS [--program PATH] [--seed S] [--shortcut K]
                                          cut power at random and check what is left
@@ -86,6 +87,14 @@ fn run(args: &[&str]) -> io::Result<ExitCode> {
                 ExitCode::FAILURE
             });
         }
+        ["samples", loglist] => match compare_samples(Path::new(loglist))? {
+            Ok(count) => writeln!(stdout, "samples: {count} images listed as they should be")?,
+            Err(difference) => {
+                writeln!(stdout, "samples: {difference}")?;
+                stdout.flush()?;
+                return Ok(ExitCode::FAILURE);
+            }
+        },
         ["cover", seed, count] => {
             let coverage = Coverage::of_scripts(parse(seed)?, parse(count)?);
             stdout.write_all(coverage.report().as_bytes())?;
