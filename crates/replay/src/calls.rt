@@ -36,7 +36,9 @@ fn call(
     match number {
         11 => append::reserve(s, image, ops, first, second),
         13 => append::complete(s, image, ops, first),
-        _ => commit::force(s, image, ops, first, second),
+        14 => commit::force(s, image, ops, first, second),
+        15 => reclaim::release(s, image, ops, first),
+        _ => reclaim::release_all(s, image, ops),
     }
 }
 
