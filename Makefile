@@ -1,9 +1,24 @@
-# prove: every function and theorem, with no program run. test: the gate.
-.PHONY: prove test
+# prove: every function and theorem, with no program run. test: the gate. compare, crash: the built programs against the
+# reference for longer, as `make compare SCRIPTS=1000`, `make crash SECONDS=600`.
+.PHONY: prove test compare crash programs
+
+SCRIPTS ?= 1000
+SECONDS ?= 60
+SEED ?= 1
+reference = reference/target/release/reference
 
 prove:
 	rt prove
 
 test:
-	rt fmt --check
-	rt ci
+	tests/gate
+
+programs:
+	rt check replay loglist
+	cd reference && cargo build --release --offline --quiet
+
+compare: programs
+	$(reference) compare target/bin/replay target/bin/loglist $(SEED) $(SCRIPTS)
+
+crash: programs
+	$(reference) crash $(SECONDS) --program target/bin/replay --seed $(SEED)

@@ -1,0 +1,120 @@
+//! Which answers and refusals of which calls a set of generated scripts reaches.
+
+use crate::gen::script;
+use crate::replay::replay;
+use crate::script::{Answer, Outcome};
+use std::fmt::Write as _;
+
+/// Refusals are numbered 1 to 15.
+const REFUSALS: usize = 15;
+
+/// The calls, and which refusals of document 01's table each can meet. Refusal 1 is every call's. 2 goes
+/// with a state or a cursor, 4 with reading the superline, 15 with an op buffer; the table names the
+/// calls of 3 and 6 to 14. 5 is for calls that are handed an LSN, except those that make one. The walk
+/// of take up meets 13 and 12.
+pub const REACHABLE: [(&str, &[usize]); 11] = [
+    ("format", &[1, 15]),
+    ("reserve", &[1, 2, 3, 8, 9, 10, 15]),
+    ("copy", &[1, 2, 5, 6, 7, 15]),
+    ("complete", &[1, 2, 5, 6, 15]),
+    ("force", &[1, 2, 3, 5, 11, 15]),
+    ("release", &[1, 2, 5, 6, 15]),
+    ("releaseall", &[1, 2, 11, 15]),
+    ("takeup", &[1, 4, 8, 12, 13, 15]),
+    ("open", &[1, 4]),
+    ("next", &[1, 2, 12, 13]),
+    ("fetch", &[1, 3, 14]),
+];
+
+/// Counts for each call: answers that are no refusal at 0, refusals at their numbers.
+pub struct Coverage {
+    counts: [[u64; REFUSALS + 1]; REACHABLE.len()],
+}
+
+impl Coverage {
+    /// Of `count` scripts from `seed` on.
+    pub fn of_scripts(seed: u64, count: u64) -> Coverage {
+        let mut coverage = Coverage { counts: [[0; REFUSALS + 1]; REACHABLE.len()] };
+        for i in 0..count {
+            let mut output = Vec::new();
+            replay(script(seed.wrapping_add(i)).as_slice(), &mut output, None)
+                .expect("writing to memory cannot fail");
+            for line in String::from_utf8_lossy(&output).lines() {
+                coverage.count(line);
+            }
+        }
+        coverage
+    }
+
+    fn count(&mut self, line: &str) {
+        let Some(answer) = Answer::parse(line) else {
+            return;
+        };
+        let call = REACHABLE.iter().position(|(name, _)| *name == answer.name);
+        let call = call.expect("only calls have answers");
+        let column = match answer.outcome {
+            Outcome::Refused { number, .. } => number as usize,
+            Outcome::Done { .. } => 0,
+        };
+        self.counts[call][column] += 1;
+    }
+
+    /// Reachable pairs of call and answer (0: no refusal) that no script reached.
+    pub fn uncovered(&self) -> Vec<(&'static str, usize)> {
+        let mut pairs = Vec::new();
+        for ((name, refusals), counts) in REACHABLE.iter().zip(&self.counts) {
+            let columns = std::iter::once(&0).chain(refusals.iter());
+            pairs.extend(columns.filter(|&&column| counts[column] == 0).map(|&c| (*name, c)));
+        }
+        pairs
+    }
+
+    /// Pairs that were reached although document 01 has no place for them.
+    pub fn unexpected(&self) -> Vec<(&'static str, usize)> {
+        let mut pairs = Vec::new();
+        for ((name, refusals), counts) in REACHABLE.iter().zip(&self.counts) {
+            let columns = (1..=REFUSALS).filter(|column| !refusals.contains(column));
+            pairs.extend(columns.filter(|&column| counts[column] > 0).map(|c| (*name, c)));
+        }
+        pairs
+    }
+
+    /// The table, a dot where a call cannot meet a refusal, and the line `uncovered: ...`.
+    pub fn report(&self) -> String {
+        let mut text = format!("{:<10} {:>7}", "call", "ok");
+        for number in 1..=REFUSALS {
+            let _ = write!(text, " {number:>6}");
+        }
+        text.push('\n');
+        for ((name, refusals), counts) in REACHABLE.iter().zip(&self.counts) {
+            let _ = write!(text, "{name:<10} {:>7}", counts[0]);
+            for (number, &count) in counts.iter().enumerate().skip(1) {
+                if refusals.contains(&number) || count > 0 {
+                    let _ = write!(text, " {count:>6}");
+                } else {
+                    let _ = write!(text, " {:>6}", ".");
+                }
+            }
+            text.push('\n');
+        }
+        if !self.unexpected().is_empty() {
+            let _ = writeln!(text, "unexpected: {}", list(&self.unexpected()));
+        }
+        let _ = writeln!(text, "uncovered: {}", list(&self.uncovered()));
+        text
+    }
+}
+
+fn list(pairs: &[(&str, usize)]) -> String {
+    if pairs.is_empty() {
+        return "none".to_string();
+    }
+    let texts: Vec<String> = pairs
+        .iter()
+        .map(|(name, column)| match column {
+            0 => format!("{name} ok"),
+            number => format!("{name} {number}"),
+        })
+        .collect();
+    texts.join(", ")
+}

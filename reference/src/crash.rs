@@ -1,0 +1,684 @@
+//! The crash bench: random histories on a device that loses power.
+//!
+//! The log under test is a replay program (REPLAY.md) in a child process. The bench carries the ops that
+//! its lines report out on a device of its own, cuts power after any number of a call's ops, and puts
+//! images that the device may then hold back into the program. What the program recovers and reads
+//! there has to satisfy demand 3, judged by the bench's own abstract log.
+//!
+//! Two children run the same program: the subject goes through the history, the prober is only given
+//! crash images. So a history can be looked at after every op without being ended by it.
+
+use crate::abstract_log::{AbstractLog, WalkedRecord};
+use crate::device::Device;
+use crate::gen::ROOMY_OP_BUFFER;
+use crate::layout::{
+    record_check, record_size, Header, FIRST_RING_WORD, HEADER_WORDS, MARK_COMMITTED,
+    MARK_RELEASED, MAX_KIND, TABLE_SIZE,
+};
+use crate::ops::{Op, OP_WORDS};
+use crate::rng::Rng;
+use crate::script::{digest, Answer, Command, Outcome};
+use std::io::{self, BufRead, BufReader, BufWriter, Write};
+use std::path::PathBuf;
+use std::process::{Child, ChildStdin, ChildStdout, Command as Process, Stdio};
+use std::sync::mpsc;
+use std::thread;
+use std::time::{Duration, Instant};
+
+/// Ops of a successful recover.
+const RECOVER_OPS: usize = 11;
+const RECOVER_WORDS: u64 = (OP_WORDS * RECOVER_OPS) as u64;
+
+const FIRST_ANSWER_WITHIN: Duration = Duration::from_secs(10);
+
+/// A program that speaks REPLAY.md on standard input and output.
+#[derive(Clone, Debug)]
+pub struct Program {
+    pub path: PathBuf,
+    pub args: Vec<String>,
+}
+
+#[derive(Clone, Debug, Default)]
+pub struct Report {
+    pub histories: u64,
+    pub crashes: u64,
+    pub images: u64,
+    pub failure: Option<Failure>,
+}
+
+#[derive(Clone, Debug)]
+pub struct Failure {
+    /// Starting the bench with this seed meets the failure in its first history.
+    pub seed: u64,
+    pub what: String,
+}
+
+/// Runs histories with the seeds from `seed` on, until time is up or one fails.
+pub fn crash_bench(program: &Program, seed: u64, time: Duration) -> io::Result<Report> {
+    let start = Instant::now();
+    let mut subject = Replayer::start(program)?;
+    let mut prober = Replayer::start(program)?;
+    let mut report = Report::default();
+    while report.failure.is_none() && start.elapsed() < time {
+        let seed = seed.wrapping_add(report.histories);
+        report.histories += 1;
+        let mut history = History::new(seed, &mut subject, &mut prober, &mut report);
+        if let Err(what) = history.run() {
+            report.failure = Some(Failure { seed, what });
+        }
+    }
+    Ok(report)
+}
+
+// ---------------------------------------------------------------- the program under test
+
+struct Replayer {
+    process: Child,
+    input: BufWriter<ChildStdin>,
+    output: BufReader<ChildStdout>,
+    /// What the program's image holds.
+    image: Vec<u64>,
+}
+
+impl Replayer {
+    fn start(program: &Program) -> io::Result<Replayer> {
+        let mut process = Process::new(&program.path)
+            .args(&program.args)
+            .stdin(Stdio::piped())
+            .stdout(Stdio::piped())
+            .spawn()?;
+        let missing = || io::Error::other("the child has no pipe");
+        let mut input = process.stdin.take().ok_or_else(missing)?;
+        let output = process.stdout.take().ok_or_else(missing)?;
+        let Some(output) = first_answer(&mut input, output)? else {
+            let _ = process.kill();
+            let _ = process.wait();
+            return Err(io::Error::other("the program does not answer each command at once"));
+        };
+        Ok(Replayer { process, input: BufWriter::new(input), output, image: Vec::new() })
+    }
+
+    /// Sends commands and reads the line of each that has one.
+    fn ask(&mut self, commands: &[Command]) -> Result<Vec<String>, String> {
+        let words = commands.iter().flat_map(Command::encode);
+        let bytes: Vec<u8> = words.flat_map(u64::to_le_bytes).collect();
+        let sent = self.input.write_all(&bytes).and_then(|()| self.input.flush());
+        sent.map_err(|error| format!("the program takes no commands: {error}"))?;
+        let mut lines = Vec::new();
+        for _ in commands.iter().filter(|command| command.answers()) {
+            let mut line = String::new();
+            let read = self.output.read_line(&mut line);
+            let count = read.map_err(|error| format!("the program gives no lines: {error}"))?;
+            if count == 0 || line.pop() != Some('\n') {
+                return Err("the program ended".to_string());
+            }
+            lines.push(line);
+        }
+        Ok(lines)
+    }
+
+    /// As `ask`, for calls only: gives their answers and keeps track of the image.
+    fn calls(&mut self, commands: &[Command]) -> Result<Vec<Answer>, String> {
+        let lines = self.ask(commands)?;
+        let answers: Result<Vec<Answer>, String> = lines
+            .iter()
+            .map(|line| Answer::parse(line).ok_or_else(|| format!("not an answer: {line}")))
+            .collect();
+        let answers = answers?;
+        for answer in &answers {
+            self.follow(answer)?;
+        }
+        Ok(answers)
+    }
+
+    fn call(&mut self, command: &Command) -> Result<Answer, String> {
+        let mut answers = self.calls(std::slice::from_ref(command))?;
+        answers.pop().ok_or_else(|| format!("no answer: {command:?}"))
+    }
+
+    /// The ops must fit the image, and their stores must be what changed it.
+    fn follow(&mut self, answer: &Answer) -> Result<(), String> {
+        let name = &answer.name;
+        let words = self.image.len() as u64;
+        for op in &answer.ops {
+            let inside = match *op {
+                Op::Store { word, .. } => word < words,
+                Op::Flush { first, count } => {
+                    first.checked_add(count).is_some_and(|end| end <= words)
+                }
+            };
+            if !inside {
+                return Err(format!("{name}: {op:?} is not on the device"));
+            }
+            if let Op::Store { word, value } = *op {
+                self.image[word as usize] = value;
+            }
+        }
+        if answer.digests.first() != Some(&digest(self.image.iter().copied())) {
+            return Err(format!("{name}: the working image is not what the ops make of it"));
+        }
+        Ok(())
+    }
+
+    /// Commands that put this image in.
+    fn load(&mut self, image: &[u64]) -> Vec<Command> {
+        let mut commands = Vec::new();
+        if self.image.len() != image.len() {
+            commands.push(Command::Image { words: image.len() as u64, value: 0 });
+            self.image = vec![0; image.len()];
+        }
+        for (word, (&new, old)) in (0..).zip(image.iter().zip(&mut self.image)) {
+            if new != *old {
+                commands.push(Command::Poke { word, value: new });
+                *old = new;
+            }
+        }
+        commands
+    }
+}
+
+/// Asks for the state and waits for it. `None` if the program waits too: for the end of its input.
+fn first_answer(
+    input: &mut ChildStdin,
+    output: ChildStdout,
+) -> io::Result<Option<BufReader<ChildStdout>>> {
+    let words = Command::State.encode();
+    let bytes: Vec<u8> = words.into_iter().flat_map(u64::to_le_bytes).collect();
+    input.write_all(&bytes)?;
+    let (sender, receiver) = mpsc::channel();
+    thread::spawn(move || {
+        let mut output = BufReader::new(output);
+        if output.read_line(&mut String::new()).is_ok() {
+            // Nobody may be waiting any more.
+            let _ = sender.send(output);
+        }
+    });
+    Ok(receiver.recv_timeout(FIRST_ANSWER_WITHIN).ok())
+}
+
+impl Drop for Replayer {
+    fn drop(&mut self) {
+        let _ = self.process.kill();
+        let _ = self.process.wait();
+    }
+}
+
+// ---------------------------------------------------------------- one history
+
+struct History<'a> {
+    rng: Rng,
+    subject: &'a mut Replayer,
+    prober: &'a mut Replayer,
+    report: &'a mut Report,
+    device: Device,
+    log: AbstractLog,
+    /// Lengths this history uses. A few only, so that old and new records come to lie alike.
+    lengths: Vec<u64>,
+    /// Steps the last walk took, likely those the next one takes.
+    usual_walk: usize,
+}
+
+impl<'a> History<'a> {
+    fn new(
+        seed: u64,
+        subject: &'a mut Replayer,
+        prober: &'a mut Replayer,
+        report: &'a mut Report,
+    ) -> Self {
+        History {
+            rng: Rng::new(seed),
+            subject,
+            prober,
+            report,
+            device: Device::new(&[]),
+            log: AbstractLog::default(),
+            lengths: Vec::new(),
+            usual_walk: 1,
+        }
+    }
+
+    fn run(&mut self) -> Result<(), String> {
+        let many_records = self.rng.chance(1, 16);
+        let words = if many_records {
+            FIRST_RING_WORD + 3 * TABLE_SIZE as u64 + self.rng.between(1, 20)
+        } else if self.rng.chance(1, 16) {
+            self.rng.between(100, 400)
+        } else {
+            self.rng.between(40, 72)
+        };
+        let lengths = [0, 0, 1, 3, 8, 9, 12, 16, 24, 30, 32, 40, 64, 96];
+        let kinds_of_length = if many_records { 0 } else { self.rng.between(1, 4) };
+        self.lengths = (0..kinds_of_length).map(|_| self.rng.pick(&lengths)).collect();
+        if many_records {
+            self.lengths.push(0);
+        } else if words >= 200 {
+            self.lengths.push(self.rng.pick(&[200, 500, 1_023, 1_024]));
+        }
+        let steps = if many_records { 5 * TABLE_SIZE as u64 } else { self.rng.between(8, 50) };
+
+        self.start_over(words)?;
+        // Each formatting finds what the life before it left.
+        for _ in 0..self.rng.between(1, 4) {
+            self.format()?;
+            for _ in 0..steps {
+                self.step(many_records)?;
+            }
+        }
+        Ok(())
+    }
+
+    /// The same beginning for every history: any old image, no state.
+    fn start_over(&mut self, words: u64) -> Result<(), String> {
+        let value = self.rng.next_u64();
+        let image = match self.rng.below(3) {
+            0 => vec![0; words as usize],
+            1 => vec![value; words as usize],
+            _ => (0..words).map(|_| self.rng.next_u64()).collect(),
+        };
+        let mut commands: Vec<Command> =
+            (0..8).map(|field| Command::Field { field, value: 0 }).collect();
+        for index in 0..TABLE_SIZE as u64 {
+            commands.push(Command::Entry { index, position: 0, length: 0, kind: 0, stage: 0 });
+        }
+        commands.push(Command::Cursor { position: 0, lsn: 0, used: 0, count: 0 });
+        commands.push(Command::OpBuffer { words: ROOMY_OP_BUFFER, value: 0 });
+        for replayer in [&mut *self.subject, &mut *self.prober] {
+            replayer.ask(&commands)?;
+            let load = replayer.load(&image);
+            replayer.ask(&load)?;
+        }
+        Ok(())
+    }
+
+    /// A cut inside formatting is promised nothing, so there is none.
+    fn format(&mut self) -> Result<(), String> {
+        self.device = Device::new(&self.subject.image);
+        let answer = self.subject.call(&Command::Format)?;
+        if answer.is_refused() {
+            return Err(format!("format is refused: {:?}", answer.outcome));
+        }
+        self.carry_out(&answer.ops);
+        self.log.feed(&Command::Format, &answer, answer.ops.len());
+        Ok(())
+    }
+
+    fn carry_out(&mut self, ops: &[Op]) {
+        ops.iter().for_each(|&op| self.device.carry_out(op));
+    }
+
+    /// One call, which power may fail in.
+    fn step(&mut self, many_records: bool) -> Result<(), String> {
+        let state = self.subject.ask(&[Command::State])?;
+        let view =
+            StateView::parse(&state[0]).ok_or_else(|| format!("not a state: {}", state[0]))?;
+        let call = self.choose(&view);
+        let answer = self.subject.call(&call)?;
+        let all = answer.ops.len();
+        let some = self.rng.below(all as u64 + 1) as usize;
+        let seldom = if many_records { 8 } else { 1 };
+
+        if self.rng.chance(1, 12 * seldom) {
+            self.carry_out(&answer.ops[..some]);
+            self.log.feed(&call, &answer, some);
+            return self.crash().map_err(|what| describe(&call, some, all, &what));
+        }
+        if self.rng.chance(2, 5 * seldom) {
+            // What if it failed here?
+            let mut device = self.device.clone();
+            answer.ops[..some].iter().for_each(|&op| device.carry_out(op));
+            let mut log = self.log.clone();
+            log.feed(&call, &answer, some);
+            self.probe(&device, &log, Effort::SMALL)
+                .map_err(|what| describe(&call, some, all, &what))?;
+        }
+        self.carry_out(&answer.ops);
+        self.log.feed(&call, &answer, all);
+        Ok(())
+    }
+
+    /// Power fails, and perhaps again while recovering.
+    fn crash(&mut self) -> Result<(), String> {
+        loop {
+            let images = self.probe(&self.device.clone(), &self.log.clone(), Effort::FULL)?;
+            let image = &images[self.rng.below(images.len() as u64) as usize];
+            self.device = Device::new(image);
+            let load = self.subject.load(image);
+            self.subject.ask(&load)?;
+            if self.rng.chance(1, 4) {
+                self.recover_with_short_op_buffer_on_subject()?;
+            }
+            let answer = self.subject.call(&Command::Recover)?;
+            expect_recovered(&answer)?;
+            if self.rng.chance(1, 3) {
+                let some = self.rng.below(answer.ops.len() as u64 + 1) as usize;
+                self.carry_out(&answer.ops[..some]);
+            } else {
+                self.carry_out(&answer.ops);
+                return Ok(());
+            }
+        }
+    }
+
+    fn recover_with_short_op_buffer_on_subject(&mut self) -> Result<(), String> {
+        let words = self.rng.below(RECOVER_WORDS);
+        let answers = self.subject.calls(&[
+            Command::OpBuffer { words, value: 1 },
+            Command::Recover,
+            Command::OpBuffer { words: ROOMY_OP_BUFFER, value: 0 },
+        ])?;
+        expect_short(&answers[0])
+    }
+
+    /// Tries images that a crash of this device can leave, and gives them.
+    fn probe(
+        &mut self,
+        device: &Device,
+        log: &AbstractLog,
+        effort: Effort,
+    ) -> Result<Vec<Vec<u64>>, String> {
+        self.report.crashes += 1;
+        let images = crash_images(&mut self.rng, &device.crash_values(), effort);
+        for image in &images {
+            self.report.images += 1;
+            self.check_image(image, log)?;
+        }
+        Ok(images)
+    }
+
+    /// Demand 3 for one crash image.
+    fn check_image(&mut self, image: &[u64], log: &AbstractLog) -> Result<(), String> {
+        let load = self.prober.load(image);
+        let (_, mut walked) = self.walk_after(load)?;
+
+        let mut commands = fetches(&walked);
+        let short_first = self.rng.chance(1, 4);
+        if short_first {
+            let words = self.rng.below(RECOVER_WORDS);
+            commands.extend([Command::OpBuffer { words, value: 1 }, Command::Recover]);
+        }
+        commands.extend([Command::OpBuffer { words: RECOVER_WORDS, value: 2 }, Command::Recover]);
+        let (answers, mut left) = self.walk_after(commands)?;
+        let (fetched, recovered) = answers.split_at(walked.len());
+        take_bytes(&mut walked, fetched)?;
+        log.check(&walked)?;
+        if short_first {
+            expect_short(&recovered[0])?;
+        }
+        expect_recovered(&recovered[recovered.len() - 1])?;
+
+        // Recovering takes nothing away but leading released records.
+        let fetched = self.prober.calls(&fetches(&left))?;
+        take_bytes(&mut left, &fetched)?;
+        let kept = walked.iter().skip_while(|record| record.mark == MARK_RELEASED);
+        if !kept.eq(&left) {
+            return Err(format!("walked before recover: {walked:?}, after: {left:?}"));
+        }
+        Ok(())
+    }
+
+    /// Sends `commands`, then walks from open on. Gives the answers of `commands` and the records
+    /// walked, their bytes still to be fetched.
+    fn walk_after(
+        &mut self,
+        mut commands: Vec<Command>,
+    ) -> Result<(Vec<Answer>, Vec<WalkedRecord>), String> {
+        let before = commands.iter().filter(|command| command.answers()).count();
+        commands.push(Command::Open);
+        // At the end next stays there, so some too many do no harm.
+        commands.resize(commands.len() + self.usual_walk, Command::Next);
+        let mut answers = self.prober.calls(&commands)?;
+        let mut steps = answers.split_off(before);
+        let opened = steps.remove(0);
+        if opened.numbers("ok").is_none() {
+            return Err(format!("open is refused: {:?}", opened.outcome));
+        }
+        let mut walked = Vec::new();
+        loop {
+            for answer in &steps {
+                match (&answer.outcome, answer.numbers("record")) {
+                    (_, Some(&[position, lsn, kind, length, mark])) => walked.push(WalkedRecord {
+                        position,
+                        lsn,
+                        kind,
+                        length,
+                        mark,
+                        bytes_digest: 0,
+                    }),
+                    (Outcome::Done { word, .. }, _) if word == "end" => {
+                        self.usual_walk = walked.len() + 1;
+                        return Ok((answers, walked));
+                    }
+                    (outcome, _) => return Err(format!("the walk ends with {outcome:?}")),
+                }
+            }
+            if walked.len() > TABLE_SIZE {
+                return Err("the walk does not end".to_string());
+            }
+            steps = self.prober.calls(&[Command::Next, Command::Next])?;
+        }
+    }
+
+    // ------------------------------------------------------------ choosing calls
+
+    fn choose(&mut self, view: &StateView) -> Command {
+        let open = view.in_stage(OPEN);
+        let committed = view.in_stage(COMMITTED);
+        let forceable = view.forceable();
+        let rng = &mut self.rng;
+        match rng.below(20) {
+            0..=3 if !open.is_empty() => {
+                let lsn = rng.pick(&open);
+                self.choose_copy(lsn, view.length(lsn))
+            }
+            4..=8 if !open.is_empty() => Command::Complete { lsn: rng.pick(&open) },
+            9..=11 if !forceable.is_empty() => {
+                let lsn = rng.pick(&forceable);
+                let frequency = if rng.chance(2, 3) { 1 } else { rng.between(1, 9) };
+                Command::Force { lsn, frequency }
+            }
+            12..=14 if !committed.is_empty() => Command::Release { lsn: rng.pick(&committed) },
+            15 if rng.chance(1, 4) => Command::ReleaseAll,
+            17 if rng.chance(1, 8) => Command::Recover, // without a crash
+            16 if rng.chance(1, 3) => {
+                // Mostly refused.
+                let lsn =
+                    rng.pick(&[0, view.head_lsn, view.committed_lsn, view.next_lsn, u64::MAX]);
+                match rng.below(4) {
+                    0 => Command::Complete { lsn },
+                    1 => Command::Force { lsn, frequency: 1 },
+                    2 => Command::Release { lsn },
+                    _ => Command::Copy { lsn, offset: 0, bytes: vec![1] },
+                }
+            }
+            _ => {
+                let length = rng.pick(&self.lengths);
+                // Now and then even where there is no room.
+                if record_size(length) < view.free_words() || rng.chance(1, 6) {
+                    Command::Reserve { kind: rng.between(1, MAX_KIND), length }
+                } else if !committed.is_empty() {
+                    // The oldest, to make room.
+                    Command::Release { lsn: committed[0] }
+                } else if !open.is_empty() {
+                    Command::Complete { lsn: open[0] }
+                } else if let Some(&lsn) = forceable.last() {
+                    Command::Force { lsn, frequency: 1 }
+                } else {
+                    Command::ReleaseAll
+                }
+            }
+        }
+    }
+
+    /// Any bytes, or such as look like a committed record soon to come.
+    fn choose_copy(&mut self, lsn: u64, length: u64) -> Command {
+        let rng = &mut self.rng;
+        if length >= 8 * HEADER_WORDS && rng.chance(1, 2) {
+            let later = lsn + rng.between(1, 3);
+            let kind = rng.between(1, MAX_KIND);
+            let header = Header { length: 0, kind, mark: MARK_COMMITTED };
+            let check = record_check(0, kind, later, std::iter::empty());
+            let words = [header.word(), later, check];
+            let offset = 8 * rng.below(length / 8 - HEADER_WORDS + 1);
+            let bytes = words.into_iter().flat_map(u64::to_le_bytes).collect();
+            return Command::Copy { lsn, offset, bytes };
+        }
+        let offset = rng.below(length + 1);
+        let count = rng.below(length - offset + 1);
+        Command::Copy { lsn, offset, bytes: rng.bytes(count) }
+    }
+}
+
+/// How many of a crash's images to try.
+#[derive(Clone, Copy)]
+struct Effort {
+    /// All, if there are at most this many,
+    all_up_to: usize,
+    /// else so many random ones.
+    samples: usize,
+}
+
+impl Effort {
+    /// For power that does fail.
+    const FULL: Effort = Effort { all_up_to: 300, samples: 30 };
+    /// For power that might have failed.
+    const SMALL: Effort = Effort { all_up_to: 16, samples: 6 };
+}
+
+/// All images, or some, that the words' values make possible.
+fn crash_images(rng: &mut Rng, values: &[Vec<u64>], effort: Effort) -> Vec<Vec<u64>> {
+    let total = values.iter().fold(1_usize, |total, values| total.saturating_mul(values.len()));
+    if total <= effort.all_up_to {
+        let image = |mut number: usize| {
+            let word = |values: &Vec<u64>| {
+                let digit = number % values.len();
+                number /= values.len();
+                values[digit]
+            };
+            values.iter().map(word).collect()
+        };
+        return (0..total).map(image).collect();
+    }
+    let sample = |_| {
+        // Of 16 words with a choice, so many hold something newer than their flushed value.
+        let newer = rng.pick(&[0, 2, 8, 8, 14, 16]);
+        let newest = rng.chance(1, 3);
+        let word = |values: &Vec<u64>| match values.len() as u64 {
+            1 => values[0],
+            _ if !rng.chance(newer, 16) => values[0],
+            count if newest => values[count as usize - 1],
+            count => values[rng.between(1, count - 1) as usize],
+        };
+        values.iter().map(word).collect()
+    };
+    (0..effort.samples).map(sample).collect()
+}
+
+fn fetches(walked: &[WalkedRecord]) -> Vec<Command> {
+    let fetch = |record: &WalkedRecord| {
+        let &WalkedRecord { position, length, .. } = record;
+        Command::Fetch { position, length, output: length }
+    };
+    walked.iter().map(fetch).collect()
+}
+
+/// Notes what the fetches gave.
+fn take_bytes(walked: &mut [WalkedRecord], fetched: &[Answer]) -> Result<(), String> {
+    for (record, answer) in walked.iter_mut().zip(fetched) {
+        match answer.digests[..] {
+            [_, _, _, output] if !answer.is_refused() => record.bytes_digest = output,
+            _ => return Err(format!("fetch of record {} is refused", record.lsn)),
+        }
+    }
+    Ok(())
+}
+
+fn expect_recovered(answer: &Answer) -> Result<(), String> {
+    if answer.numbers("ok").is_none() || answer.ops.len() != RECOVER_OPS {
+        let count = answer.ops.len();
+        return Err(format!("take up answers {:?} with {count} ops", answer.outcome));
+    }
+    Ok(())
+}
+
+fn expect_short(answer: &Answer) -> Result<(), String> {
+    let expected = Outcome::Refused { number: 15, detail: RECOVER_WORDS };
+    if answer.outcome != expected || !answer.ops.is_empty() {
+        return Err(format!("take up with too short an op buffer answers {:?}", answer.outcome));
+    }
+    Ok(())
+}
+
+fn describe(call: &Command, done: usize, all: usize, what: &str) -> String {
+    format!("power fails after {done} of {all} ops of {call:?}: {what}")
+}
+
+// ---------------------------------------------------------------- what the state command says
+
+const OPEN: u64 = 1;
+const COMPLETE: u64 = 2;
+const COMMITTED: u64 = 3;
+
+/// Only helps to choose calls; nothing is judged by it.
+struct StateView {
+    capacity: u64,
+    head_lsn: u64,
+    next_lsn: u64,
+    committed_lsn: u64,
+    /// Length and stage by table index.
+    entries: [(u64, u64); TABLE_SIZE],
+}
+
+impl StateView {
+    fn parse(line: &str) -> Option<StateView> {
+        let line = line.strip_prefix("state ")?;
+        let numbers: Option<Vec<u64>> = line
+            .split([' ', '[', ']'])
+            .filter(|token| !token.is_empty())
+            .map(|token| token.parse().ok())
+            .collect();
+        let numbers = numbers?;
+        if numbers.len() < 8 {
+            return None;
+        }
+        let mut view = StateView {
+            capacity: numbers[0],
+            head_lsn: numbers[2],
+            next_lsn: numbers[4],
+            committed_lsn: numbers[5],
+            entries: [(0, 0); TABLE_SIZE],
+        };
+        for entry in numbers[8..].chunks(5) {
+            let &[index, _position, length, _kind, stage] = entry else {
+                return None;
+            };
+            *view.entries.get_mut(index as usize)? = (length, stage);
+        }
+        let live = view.next_lsn.checked_sub(view.head_lsn)?;
+        (live <= TABLE_SIZE as u64).then_some(view)
+    }
+
+    fn entry(&self, lsn: u64) -> (u64, u64) {
+        self.entries[(lsn % TABLE_SIZE as u64) as usize]
+    }
+
+    fn length(&self, lsn: u64) -> u64 {
+        self.entry(lsn).0
+    }
+
+    fn in_stage(&self, stage: u64) -> Vec<u64> {
+        (self.head_lsn..self.next_lsn).filter(|&lsn| self.entry(lsn).1 == stage).collect()
+    }
+
+    /// Complete records with no open one before them.
+    fn forceable(&self) -> Vec<u64> {
+        (self.committed_lsn.saturating_add(1)..self.next_lsn)
+            .take_while(|&lsn| self.entry(lsn).1 == COMPLETE)
+            .collect()
+    }
+
+    fn free_words(&self) -> u64 {
+        let live = self.head_lsn..self.next_lsn;
+        let used: u64 = live.map(|lsn| record_size(self.length(lsn))).sum();
+        self.capacity.saturating_sub(used)
+    }
+}

@@ -1,0 +1,36 @@
+//! An executable reading of document 01, "The drive log on one module".
+//!
+//! It is written from the document alone and shares nothing with the proved implementation, so that
+//! each can be measured against the other. Plain Rust, standard library only.
+//!
+//! | document     | here          | document | here         |
+//! |--------------|---------------|----------|--------------|
+//! | tape         | op buffer     | order    | op           |
+//! | place        | ring position | stop     | terminator   |
+//! | take up      | recover       | cut      | crash        |
+//! | book         | abstract log  | kept     | durable      |
+//! | put off      | deferred      | module   | device       |
+
+#![forbid(unsafe_code)]
+
+// The log of document 01.
+pub mod calls;
+pub mod layout;
+pub mod ops;
+pub mod refusal;
+pub mod state;
+
+// What a power failure does, and what must survive it.
+pub mod abstract_log;
+pub mod device;
+
+// Programs.
+pub mod compare;
+pub mod cover;
+pub mod crash;
+pub mod gen;
+pub mod loglist;
+pub mod replay;
+pub mod rng;
+pub mod script;
+pub mod shortcut;

@@ -1,0 +1,149 @@
+//! The command line. `reference` alone says what there is.
+
+use reference::compare::compare;
+use reference::cover::Coverage;
+use reference::crash::{crash_bench, Program};
+use reference::gen;
+use reference::loglist::{loglist, read_image_bytes};
+use reference::replay::replay;
+use reference::shortcut::Shortcut;
+use std::fs;
+use std::io::{self, BufWriter, Write};
+use std::path::{Path, PathBuf};
+use std::process::ExitCode;
+use std::time::Duration;
+
+const USAGE: &str = "\
+usage: reference loglist                 list the image on standard input
+       reference replay [--shortcut K]   run the script on standard input
+       reference gen SEED                write one random script to standard output
+       reference gen SEED N DIR          write N scripts as DIR/script-<seed>.bin
+       reference image SEED              write an image from that script, perhaps damaged
+       reference compare REPLAY LOGLIST SEED N
+                                         compare two other programs with ours on N seeds
+       reference cover SEED N            count what N scripts reach
+       reference crash SECONDS [--program PATH] [--seed S] [--shortcut K]
+                                         cut power at random and check what is left
+";
+
+fn main() -> ExitCode {
+    let args: Vec<String> = std::env::args().skip(1).collect();
+    let args: Vec<&str> = args.iter().map(String::as_str).collect();
+    match run(&args) {
+        Ok(code) => code,
+        // Whoever read our output has seen enough.
+        Err(error) if error.kind() == io::ErrorKind::BrokenPipe => ExitCode::SUCCESS,
+        Err(error) => {
+            eprintln!("reference: {error}");
+            ExitCode::from(2)
+        }
+    }
+}
+
+fn run(args: &[&str]) -> io::Result<ExitCode> {
+    let mut stdout = BufWriter::with_capacity(1 << 16, io::stdout().lock());
+    match args {
+        ["loglist"] => {
+            let bytes = read_image_bytes(io::stdin().lock())?;
+            stdout.write_all(loglist(&bytes).as_bytes())?;
+        }
+        ["replay"] => replay(io::stdin().lock(), &mut stdout, None)?,
+        ["replay", "--shortcut", number] => {
+            replay(io::stdin().lock(), &mut stdout, Some(shortcut(number)?))?;
+        }
+        ["gen", seed] => stdout.write_all(&gen::script(parse(seed)?))?,
+        ["gen", seed, count, directory] => {
+            let first: u64 = parse(seed)?;
+            for i in 0..parse(count)? {
+                let seed = first.wrapping_add(i);
+                let path = Path::new(directory).join(format!("script-{seed}.bin"));
+                fs::write(path, gen::script(seed))?;
+            }
+        }
+        ["image", seed] => stdout.write_all(&gen::image(parse(seed)?))?,
+        ["compare", replay, loglist, seed, count] => {
+            let result =
+                compare(Path::new(replay), Path::new(loglist), parse(seed)?, parse(count)?)?;
+            if let Some(found) = &result.difference {
+                writeln!(
+                    stdout,
+                    "seed {}: {} differs in line {}",
+                    found.seed, found.what, found.line
+                )?;
+                writeln!(stdout, "reference: {}\nprogram:   {}", found.ours, found.theirs)?;
+            }
+            writeln!(
+                stdout,
+                "compare: {} scripts, {} lines, {} differences",
+                result.scripts,
+                result.lines,
+                result.difference.iter().count()
+            )?;
+            stdout.flush()?;
+            return Ok(if result.difference.is_none() {
+                ExitCode::SUCCESS
+            } else {
+                ExitCode::FAILURE
+            });
+        }
+        ["cover", seed, count] => {
+            let coverage = Coverage::of_scripts(parse(seed)?, parse(count)?);
+            stdout.write_all(coverage.report().as_bytes())?;
+        }
+        ["crash", seconds, options @ ..] => return crash(seconds, options),
+        _ => {
+            eprint!("{USAGE}");
+            return Ok(ExitCode::from(2));
+        }
+    }
+    stdout.flush()?;
+    Ok(ExitCode::SUCCESS)
+}
+
+fn crash(seconds: &str, options: &[&str]) -> io::Result<ExitCode> {
+    let mut other_program = None;
+    let mut replay_args = vec!["replay".to_string()];
+    let mut seed = 1;
+    for option in options.chunks(2) {
+        match *option {
+            ["--program", path] => other_program = Some(PathBuf::from(path)),
+            ["--seed", number] => seed = parse(number)?,
+            ["--shortcut", number] => {
+                shortcut(number)?;
+                replay_args.extend(["--shortcut".to_string(), number.to_string()]);
+            }
+            _ => return Err(invalid(format!("not an option: {}", option.join(" ")))),
+        }
+    }
+    let program = match other_program {
+        Some(_) if replay_args.len() > 1 => {
+            return Err(invalid("another program takes no short cut".to_string()));
+        }
+        Some(path) => Program { path, args: Vec::new() },
+        None => Program { path: std::env::current_exe()?, args: replay_args },
+    };
+    let report = crash_bench(&program, seed, Duration::from_secs(parse(seconds)?))?;
+    if let Some(failure) = &report.failure {
+        println!("seed {}: {}", failure.seed, failure.what);
+    }
+    println!(
+        "crash: {} histories, {} crashes, {} images, {} failures",
+        report.histories,
+        report.crashes,
+        report.images,
+        report.failure.iter().count(),
+    );
+    Ok(if report.failure.is_none() { ExitCode::SUCCESS } else { ExitCode::FAILURE })
+}
+
+fn parse<T: std::str::FromStr>(text: &str) -> io::Result<T> {
+    text.parse().map_err(|_| invalid(format!("not a good number: {text}")))
+}
+
+fn shortcut(text: &str) -> io::Result<Shortcut> {
+    Shortcut::numbered(parse(text)?).ok_or_else(|| invalid("the short cuts are 1 to 5".to_string()))
+}
+
+fn invalid(message: String) -> io::Error {
+    io::Error::new(io::ErrorKind::InvalidInput, message)
+}

@@ -1,0 +1,76 @@
+//! The table "When a call declines".
+
+/// Why a call declined. Its number and detail are those of document 01.
+#[derive(Clone, Copy, Debug, PartialEq, Eq)]
+pub enum Refusal {
+    /// The image does not have 40 to 8,192 words, or not the state's capacity + 24.
+    ImageSize,
+    /// The state is not sound, or the cursor is out of bounds.
+    Unsound,
+    /// Kind, length, force frequency or fetch position out of range.
+    Argument,
+    /// The selector or the selected superline copy is wrong.
+    Superline,
+    NotLive,
+    /// Copy, complete: the record is not open. Release: it is not committed.
+    WrongStage,
+    /// Copy reaches behind the payload.
+    BeyondPayload,
+    /// No LSN (reserve) or no epoch (recover) is left.
+    NumbersSpent,
+    TableFull,
+    NoRoom,
+    /// Force: `lsn` is open. Release all: `lsn` is not committed.
+    NotReady {
+        lsn: u64,
+    },
+    Damaged {
+        lsn: u64,
+    },
+    TooMany {
+        lsn: u64,
+    },
+    OutputShort,
+    OpBufferShort {
+        needed: u64,
+    },
+}
+
+impl Refusal {
+    pub fn number(self) -> u64 {
+        match self {
+            Refusal::ImageSize => 1,
+            Refusal::Unsound => 2,
+            Refusal::Argument => 3,
+            Refusal::Superline => 4,
+            Refusal::NotLive => 5,
+            Refusal::WrongStage => 6,
+            Refusal::BeyondPayload => 7,
+            Refusal::NumbersSpent => 8,
+            Refusal::TableFull => 9,
+            Refusal::NoRoom => 10,
+            Refusal::NotReady { .. } => 11,
+            Refusal::Damaged { .. } => 12,
+            Refusal::TooMany { .. } => 13,
+            Refusal::OutputShort => 14,
+            Refusal::OpBufferShort { .. } => 15,
+        }
+    }
+
+    pub fn detail(self) -> u64 {
+        match self {
+            Refusal::NotReady { lsn } | Refusal::Damaged { lsn } | Refusal::TooMany { lsn } => lsn,
+            Refusal::OpBufferShort { needed } => needed,
+            _ => 0,
+        }
+    }
+}
+
+/// `Err(refusal)` unless `condition` holds.
+pub fn require(condition: bool, refusal: Refusal) -> Result<(), Refusal> {
+    if condition {
+        Ok(())
+    } else {
+        Err(refusal)
+    }
+}

@@ -1,0 +1,83 @@
+//! The test program's script format, and what the generated scripts reach.
+
+use reference::cover::Coverage;
+use reference::gen::script;
+use reference::layout::TABLE_SIZE;
+use reference::replay::replay;
+
+fn run(bytes: &[u8]) -> String {
+    let mut output = Vec::new();
+    replay(bytes, &mut output, None).unwrap();
+    String::from_utf8(output).unwrap()
+}
+
+fn run_words(words: &[u64]) -> String {
+    run(&words.iter().flat_map(|word| word.to_le_bytes()).collect::<Vec<u8>>())
+}
+
+#[test]
+fn a_small_script() {
+    // Image of 40 words, op buffer of 33, format, state, some words.
+    let output = run_words(&[1, 40, 0, 3, 33, 0, 10, 31, 30, 0, 3, 30, 38, 9, 30, 40, 1, 20, 21]);
+    let lines: Vec<&str> = output.lines().collect();
+    assert!(lines[0]
+        .starts_with("format ok orders 11 s 8 4294967336 s 9 16 s 10 0 s 11 1 s 12 1 s 13 "));
+    assert_eq!(lines[1], "state 16 0 1 0 1 0 0 1");
+    assert_eq!(lines[2..5], ["words 0 0 0", "words 0 0", "words"]);
+    assert!(lines[5].starts_with("open ok 0 1 0 0 = "));
+    assert!(lines[6].starts_with("next end 1 = "));
+    assert_eq!(lines.len(), 7);
+}
+
+#[test]
+fn digests() {
+    // No words at all: 7 each for image and op buffer. The state: all zeros.
+    let zeros = (0..8 + 4 * TABLE_SIZE).fold(7_u64, |hash, _| hash * 31 % 2_147_483_647);
+    assert_eq!(run_words(&[10]), format!("format refused 1 0 orders 0 = 7 7 {zeros}\n"));
+    let output = (0..2).fold(7_u64, |hash, _| hash * 31 + 238);
+    assert_eq!(run_words(&[22, 0, 0, 2]), format!("fetch refused 1 0 = 7 7 {zeros} {output}\n"));
+    let big = 7 * 31 + u64::MAX % 2_147_483_647; // below the prime already
+    assert_eq!(run_words(&[1, 1, u64::MAX, 20]), format!("open refused 1 0 = {big} 7 {zeros}\n"));
+}
+
+#[test]
+fn states_by_field_and_entry() {
+    let output =
+        run_words(&[4, 0, 5, 4, 7, 6, 4, 8, 9, 5, 66, 65_537, 2, 3, 4, 5, 3, 1, 1, 1, 5, 31]);
+    assert_eq!(output, "state 5 0 0 0 0 0 0 6 [2 1 2 3 4]\n");
+}
+
+#[test]
+fn ends_of_scripts() {
+    let state = "state 0 0 0 0 0 0 0 0\n";
+    assert_eq!(run_words(&[]), "");
+    assert_eq!(run_words(&[31, 0, 31]), state);
+    for word in [7, 18, 23, 32, u64::MAX] {
+        assert_eq!(run_words(&[31, word, 31]), format!("{state}bad {word}\n"));
+    }
+    // Limits.
+    assert_eq!(run_words(&[1, 9_001, 0, 31]), "bad 1\n");
+    assert_eq!(run_words(&[3, 26_001, 0, 31]), "bad 3\n");
+    assert_eq!(run_words(&[12, 0, 0, 2_049]), "bad 12\n");
+    assert_eq!(run_words(&[22, 0, 0, u64::MAX]), "bad 22\n");
+    assert_eq!(run_words(&[1, 9_000, 0, 3, 26_000, 0, 31]), state);
+    // Cut off: within the arguments, even if the limit is passed; within the data; within a word.
+    assert_eq!(run_words(&[31, 1, 9_001]), state);
+    assert_eq!(run_words(&[31, 12, 1, 0, 9, 5]), state);
+    assert_eq!(run(&[31, 0, 0, 0, 0, 0, 0, 0, 31, 0, 0]), state);
+}
+
+#[test]
+fn scripts_are_repeatable() {
+    for seed in [0, 1, u64::MAX] {
+        assert_eq!(script(seed), script(seed));
+    }
+    assert_ne!(script(1), script(2));
+}
+
+#[test]
+fn scripts_reach_every_refusal() {
+    let coverage = Coverage::of_scripts(1, 300);
+    assert_eq!(coverage.uncovered(), []);
+    assert_eq!(coverage.unexpected(), []);
+}
