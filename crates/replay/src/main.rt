@@ -304,7 +304,13 @@ fn command(
 }
 
 // Reads the next command and carries it out.
-fn step(session: Session, image: &mut [u64], ops: &mut [u64], bytes: &mut [u8], out: &mut [u8]) -> Session
+fn step(
+    session: Session,
+    image: &mut [u64],
+    ops: &mut [u64],
+    bytes: &mut [u8],
+    out: &mut [u8],
+) -> Session
     requires { ⌜ (session .«image_words» ≤ length (now image)) × (session .«ops_words» ≤ length (now ops)) × (0 < length (now out)) ⌝ }
     ensures { λ r. ⌜ (r .«image_words» ≤ length (now (image .entry))) × (r .«ops_words» ≤ length (now (ops .entry))) ⌝ }
 {
