@@ -22,7 +22,7 @@ use state::State;
 ghost use Prim.Native.Nat.{_<_};
 ghost use lib.ListN.{length};
 
-// Makes the writing call of a number; any other than those above is recover.
+// Makes the writing call of a number; 17, the last, is recover.
 fn call(
     number: u64,
     args: Args,
@@ -34,11 +34,13 @@ fn call(
     let first = args.first;
     let second = args.second;
     match number {
+        10 => recover::format(image, ops),
         11 => append::reserve(s, image, ops, first, second),
         13 => append::complete(s, image, ops, first),
         14 => commit::force(s, image, ops, first, second),
         15 => reclaim::release(s, image, ops, first),
-        _ => reclaim::release_all(s, image, ops),
+        16 => reclaim::release_all(s, image, ops),
+        _ => recover::recover(image, ops),
     }
 }
 
