@@ -36,6 +36,7 @@ fn call(
     match number {
         10 => recover::format(image, ops),
         11 => append::reserve(s, image, ops, first, second),
+        12 => append::copy(s, image, ops, first, second, bytes),
         13 => append::complete(s, image, ops, first),
         14 => commit::force(s, image, ops, first, second),
         15 => reclaim::release(s, image, ops, first),
