@@ -1,0 +1,74 @@
+// Lines of text on standard output, by way of a lent buffer. Each function puts its text from an index on and answers the
+// index behind it; a full buffer is written out, so that a line may be of any length.
+// The contracts say that the index stays inside the buffer.
+ghost use Prim.Native.Nat.{_<_};
+ghost use lib.ListN.{length};
+
+// Puts one byte.
+pub fn put_byte(out: &mut [u8], at: usize, byte: u8) -> usize
+    requires { ⌜ at < length (now out) ⌝ }
+    ensures { λ r. ⌜ r < length (now (out .entry)) ⌝ }
+{
+    out[at] = byte;
+    let next = at + 1;
+    if next < out.len() {
+        return next;
+    }
+    io::write_all(libc::STDOUT_FILENO, out);
+    0
+}
+
+// Puts bytes as they are.
+pub fn put_text(out: &mut [u8], at: usize, text: &[u8]) -> usize
+    requires { ⌜ at < length (now out) ⌝ }
+    ensures { λ r. ⌜ r < length (now (out .entry)) ⌝ }
+{
+    let mut next = at;
+    let mut i: usize = 0;
+    while i < text.len() {
+        next = put_byte(out, next, text[i]);
+        i += 1;
+    }
+    next
+}
+
+// Puts a number in decimal.
+pub fn put_number(out: &mut [u8], at: usize, n: u64) -> usize
+    requires { ⌜ at < length (now out) ⌝ }
+    ensures { λ r. ⌜ r < length (now (out .entry)) ⌝ }
+{
+    let mut digits = [0u8; 20];
+    let k = io::decimal(n, &mut digits);
+    put_text(out, at, &digits[..k])
+}
+
+// Puts a blank and a number.
+pub fn put_field(out: &mut [u8], at: usize, n: u64) -> usize
+    requires { ⌜ at < length (now out) ⌝ }
+    ensures { λ r. ⌜ r < length (now (out .entry)) ⌝ }
+{
+    let next = put_byte(out, at, b' ');
+    put_number(out, next, n)
+}
+
+// Puts numbers, each behind a blank.
+pub fn put_fields(out: &mut [u8], at: usize, values: &[u64]) -> usize
+    requires { ⌜ at < length (now out) ⌝ }
+    ensures { λ r. ⌜ r < length (now (out .entry)) ⌝ }
+{
+    let mut next = at;
+    let mut i: usize = 0;
+    while i < values.len() {
+        next = put_field(out, next, values[i]);
+        i += 1;
+    }
+    next
+}
+
+// Ends the line and writes it out, so that whoever waits for it has it.
+pub fn end_line(out: &mut [u8], at: usize)
+    requires { ⌜ at < length (now out) ⌝ }
+{
+    let end = put_byte(out, at, b'\n');
+    io::write_all(libc::STDOUT_FILENO, &out[..end]);
+}
