@@ -5,7 +5,7 @@ use mathlib.Core.List.{List, [], _∷_, _++_, append-assoc, append-nil}
 use Prim.Native.Nat.{ℕ, suc, _+_, _*_, _-_, _/_, _%_, _≤_, _<_}
 use native.Mathlib.Numerals.{add-one}
 use native.Mathlib.Omega.{arith}
-use lib.ListN.{length, take, drop, getD, set, length-append, length-set}
+use lib.ListN.{length, take, drop, getD, set, length-append, length-take, length-set}
 use lib.Seq.{take-suc, take-suc-set, drop-set-lt, drop-drop}
 use Rattle.io.specs.Digits.{glyph}
 use Rattle.text.specs.Text.{hexText, Appended}
@@ -71,3 +71,9 @@ hex-more {at} {i} {a} {b} bs x y p l h ex ey =
     let two = appended-both (appended-one (at + 2 * i) b x (omega arith)) (appended-one (at + 2 * i + 1) (set b (at + 2 * i) x) y (omega arith)) in
     let t : hexText (take (i + 1) bs) ≡ hexText (take i bs) ++ (x ∷ y ∷ []) = rw (add-one i, take-suc bs i 0 l, hex-append, ex, ey) in
     rw t (rw e at (appended-both p two))
+
+-- a text ends within the buffer
+pub appended-within : {at r : ℕ} {a b s : List ℕ} → Appended at r a b s → at ≤ length a → r ≤ length b
+appended-within {at} {r} {a} {b} {s} p h =
+    let e = p .end in
+    omega (arith, length-take r b, length-take at a, length-append (take at a) s, ap length (p .front))
