@@ -35,3 +35,4 @@ pub mod rng;
 pub mod samples;
 pub mod script;
 pub mod shortcut;
+pub mod time;

@@ -113,6 +113,14 @@ pub fn samples() -> Vec<Sample> {
     samples
 }
 
+/// The fullest image that a listing can meet: 8,192 words, all but a few of them in 64 records.
+pub fn full_image() -> Vec<u8> {
+    let records: Vec<Record> = (0..TABLE_SIZE as u8)
+        .map(|i| record(u64::from(i) + 1, MARK_COMMITTED, &[i; 991]))
+        .collect();
+    Written::new(8192, 0, 1, &records).bytes()
+}
+
 fn sample(name: impl Into<String>, bytes: Vec<u8>, text: impl Into<String>) -> Sample {
     Sample { name: name.into(), bytes, text: text.into() }
 }
