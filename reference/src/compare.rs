@@ -3,6 +3,7 @@
 use crate::gen;
 use crate::loglist::loglist;
 use crate::replay::replay;
+use crate::samples::samples;
 use std::io::{self, Read, Write};
 use std::path::Path;
 use std::process::{Command, Stdio};
@@ -21,6 +22,19 @@ pub struct Comparison {
     pub scripts: u64,
     pub lines: u64,
     pub difference: Option<Difference>,
+}
+
+/// Runs `loglist_program` on every sample and gives the first whose text differs.
+pub fn compare_samples(loglist_program: &Path) -> io::Result<Result<usize, String>> {
+    let all = samples();
+    for sample in &all {
+        let theirs = output_of(loglist_program, &sample.bytes)?;
+        if theirs != sample.text.as_bytes() {
+            let theirs = String::from_utf8_lossy(&theirs);
+            return Ok(Err(format!("{}: expected\n{}but got\n{theirs}", sample.name, sample.text)));
+        }
+    }
+    Ok(Ok(all.len()))
 }
 
 /// Runs the script of each seed through `replay_program` and the image of each seed through

@@ -32,5 +32,7 @@ pub mod gen;
 pub mod loglist;
 pub mod replay;
 pub mod rng;
+pub mod samples;
 pub mod script;
 pub mod shortcut;
+pub mod time;

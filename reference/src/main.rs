@@ -1,12 +1,13 @@
 //! The command line. `reference` alone says what there is.
 
-use reference::compare::compare;
+use reference::compare::{compare, compare_samples};
 use reference::cover::Coverage;
 use reference::crash::{crash_bench, Program};
 use reference::gen;
 use reference::loglist::{loglist, read_image_bytes};
 use reference::replay::replay;
 use reference::shortcut::Shortcut;
+use reference::time::list_times;
 use std::fs;
 use std::io::{self, BufWriter, Write};
 use std::path::{Path, PathBuf};
@@ -21,6 +22,8 @@ usage: reference loglist                 list the image on standard input
        reference image SEED              write an image from that script, perhaps damaged
        reference compare REPLAY LOGLIST SEED N
                                          compare two other programs with ours on N seeds
+       reference samples LOGLIST         run another loglist on images written word by word
+       reference time PROGRAM...         how long each takes to list a full image
        reference cover SEED N            count what N scripts reach
        reference crash SECONDS [--program PATH] [--seed S] [--shortcut K]
                                          cut power at random and check what is left
@@ -85,6 +88,20 @@ fn run(args: &[&str]) -> io::Result<ExitCode> {
             } else {
                 ExitCode::FAILURE
             });
+        }
+        ["samples", loglist] => match compare_samples(Path::new(loglist))? {
+            Ok(count) => writeln!(stdout, "samples: {count} images listed as they should be")?,
+            Err(difference) => {
+                writeln!(stdout, "samples: {difference}")?;
+                stdout.flush()?;
+                return Ok(ExitCode::FAILURE);
+            }
+        },
+        ["time", programs @ ..] => {
+            let paths: Vec<&Path> = programs.iter().map(Path::new).collect();
+            for (program, time) in programs.iter().zip(list_times(&paths, 200)?) {
+                writeln!(stdout, "{:>8.1} us  {program}", time.as_secs_f64() * 1e6)?;
+            }
         }
         ["cover", seed, count] => {
             let coverage = Coverage::of_scripts(parse(seed)?, parse(count)?);
