@@ -1,5 +1,5 @@
 // The calls of the log, each with the line that it prints: name, answer, the ops of a writing call, digests.
-// What the calls do is said by their own contracts; here only the index into the text buffer is.
+// What the calls do is said by their own contracts; those here say that the index stays inside the text buffer.
 use crate::digest;
 use crate::input::Args;
 use crate::output::TEXT_SIZE;
@@ -102,7 +102,7 @@ pub fn write(
     after
 }
 
-// Puts what open answers, and gives the cursor after it.
+// Puts what open answers.
 fn put_opened(out: &mut [u8; TEXT_SIZE], at: usize, opened: Opened) -> usize
     requires { ⌜ Inside at ⌝ }
     ensures { λ r. ⌜ Inside r ⌝ }
