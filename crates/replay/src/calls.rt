@@ -1,7 +1,8 @@
 // The calls of the log, each with the line that it prints: name, answer, the ops of a writing call, digests.
-// What the calls do is said by their own contracts; here only the index into the text buffer is.
+// What the calls do is said by their own contracts; those here say that the index stays inside the text buffer.
 use crate::digest;
 use crate::input::Args;
+use crate::output::TEXT_SIZE;
 use crate::output::end_line;
 use crate::output::put_field;
 use crate::output::put_fields;
@@ -11,16 +12,15 @@ use crate::print::put_digests;
 use crate::print::put_ops;
 use crate::print::put_refusal;
 use crate::setup::fill_bytes;
-use journal::Answer;
-use journal::Outcome;
-use scan::Cursor;
-use scan::Fetched;
-use scan::Found;
-use scan::Opened;
-use scan::Step;
-use state::State;
-ghost use Prim.Native.Nat.{_<_};
-ghost use lib.ListN.{length};
+use drivelog::Answer;
+use drivelog::Cursor;
+use drivelog::Fetched;
+use drivelog::Found;
+use drivelog::Opened;
+use drivelog::Outcome;
+use drivelog::State;
+use drivelog::Step;
+ghost use Rattle.replay.specs.Text.{Inside};
 
 // Makes the writing call of a number; 17, the last, is recover.
 fn call(
@@ -34,21 +34,20 @@ fn call(
     let first = args.first;
     let second = args.second;
     match number {
-        10 => recover::format(image, ops),
-        11 => append::reserve(s, image, ops, first, second),
-        12 => append::copy(s, image, ops, first, second, bytes),
-        13 => append::complete(s, image, ops, first),
-        14 => commit::force(s, image, ops, first, second),
-        15 => reclaim::release(s, image, ops, first),
-        16 => reclaim::release_all(s, image, ops),
-        _ => recover::recover(image, ops),
+        10 => drivelog::format(image, ops),
+        11 => drivelog::reserve(s, image, ops, first, second),
+        12 => drivelog::copy(s, image, ops, first, second, bytes),
+        13 => drivelog::complete(s, image, ops, first),
+        14 => drivelog::force(s, image, ops, first, second),
+        15 => drivelog::release(s, image, ops, first),
+        16 => drivelog::release_all(s, image, ops),
+        _ => drivelog::recover(image, ops),
     }
 }
 
 // Begins a line with the name of a writing call.
-fn put_name(out: &mut [u8], number: u64) -> usize
-    requires { ⌜ 0 < length (now out) ⌝ }
-    ensures { λ r. ⌜ r < length (now (out .entry)) ⌝ }
+fn put_name(out: &mut [u8; TEXT_SIZE], number: u64) -> usize
+    ensures { λ r. ⌜ Inside r ⌝ }
 {
     match number {
         10 => put_text(out, 0, b"format"),
@@ -89,10 +88,8 @@ pub fn write(
     image: &mut [u64],
     ops: &mut [u64],
     bytes: &[u8],
-    out: &mut [u8],
-) -> State
-    requires { ⌜ 0 < length (now out) ⌝ }
-{
+    out: &mut [u8; TEXT_SIZE],
+) -> State {
     let outcome = call(number, args, s, image, ops, bytes);
     let after = state_after(s, outcome);
     let answer = outcome.answer;
@@ -105,10 +102,10 @@ pub fn write(
     after
 }
 
-// Puts what open answers, and gives the cursor after it.
-fn put_opened(out: &mut [u8], at: usize, opened: Opened) -> usize
-    requires { ⌜ at < length (now out) ⌝ }
-    ensures { λ r. ⌜ r < length (now (out .entry)) ⌝ }
+// Puts what open answers.
+fn put_opened(out: &mut [u8; TEXT_SIZE], at: usize, opened: Opened) -> usize
+    requires { ⌜ Inside at ⌝ }
+    ensures { λ r. ⌜ Inside r ⌝ }
 {
     match opened {
         Opened::At(c) => put_cursor(out, at, c),
@@ -117,9 +114,9 @@ fn put_opened(out: &mut [u8], at: usize, opened: Opened) -> usize
 }
 
 // Puts a cursor that open gave.
-fn put_cursor(out: &mut [u8], at: usize, c: Cursor) -> usize
-    requires { ⌜ at < length (now out) ⌝ }
-    ensures { λ r. ⌜ r < length (now (out .entry)) ⌝ }
+fn put_cursor(out: &mut [u8; TEXT_SIZE], at: usize, c: Cursor) -> usize
+    requires { ⌜ Inside at ⌝ }
+    ensures { λ r. ⌜ Inside r ⌝ }
 {
     let next = put_text(out, at, b" ok");
     let values = [c.pos, c.lsn, c.used, c.count];
@@ -135,10 +132,8 @@ fn cursor_opened(c: Cursor, opened: Opened) -> Cursor {
 }
 
 // Opens the image and prints the line. Answers the cursor after it.
-pub fn open(c: Cursor, s: State, image: &[u64], ops: &[u64], out: &mut [u8]) -> Cursor
-    requires { ⌜ 0 < length (now out) ⌝ }
-{
-    let opened = scan::open(image);
+pub fn open(c: Cursor, s: State, image: &[u64], ops: &[u64], out: &mut [u8; TEXT_SIZE]) -> Cursor {
+    let opened = drivelog::open(image);
     let name = put_text(out, 0, b"open");
     let said = put_opened(out, name, opened);
     let end = put_digests(out, said, image, ops, s);
@@ -147,9 +142,9 @@ pub fn open(c: Cursor, s: State, image: &[u64], ops: &[u64], out: &mut [u8]) -> 
 }
 
 // Puts a record that next found.
-fn put_found(out: &mut [u8], at: usize, f: Found) -> usize
-    requires { ⌜ at < length (now out) ⌝ }
-    ensures { λ r. ⌜ r < length (now (out .entry)) ⌝ }
+fn put_found(out: &mut [u8; TEXT_SIZE], at: usize, f: Found) -> usize
+    requires { ⌜ Inside at ⌝ }
+    ensures { λ r. ⌜ Inside r ⌝ }
 {
     let next = put_text(out, at, b" record");
     let values = [f.pos, f.lsn, f.kind, f.length, f.mark];
@@ -157,18 +152,18 @@ fn put_found(out: &mut [u8], at: usize, f: Found) -> usize
 }
 
 // Puts the end that next met.
-fn put_end(out: &mut [u8], at: usize, lsn: u64) -> usize
-    requires { ⌜ at < length (now out) ⌝ }
-    ensures { λ r. ⌜ r < length (now (out .entry)) ⌝ }
+fn put_end(out: &mut [u8; TEXT_SIZE], at: usize, lsn: u64) -> usize
+    requires { ⌜ Inside at ⌝ }
+    ensures { λ r. ⌜ Inside r ⌝ }
 {
     let next = put_text(out, at, b" end");
     put_field(out, next, lsn)
 }
 
 // Puts what next answers.
-fn put_step(out: &mut [u8], at: usize, step: Step) -> usize
-    requires { ⌜ at < length (now out) ⌝ }
-    ensures { λ r. ⌜ r < length (now (out .entry)) ⌝ }
+fn put_step(out: &mut [u8; TEXT_SIZE], at: usize, step: Step) -> usize
+    requires { ⌜ Inside at ⌝ }
+    ensures { λ r. ⌜ Inside r ⌝ }
 {
     match step {
         Step::Record(found, _) => put_found(out, at, found),
@@ -187,10 +182,8 @@ fn cursor_behind(c: Cursor, step: Step) -> Cursor {
 }
 
 // Steps to the next record and prints the line. Answers the cursor after it.
-pub fn next(c: Cursor, s: State, image: &[u64], ops: &[u64], out: &mut [u8]) -> Cursor
-    requires { ⌜ 0 < length (now out) ⌝ }
-{
-    let step = scan::next(image, c);
+pub fn next(c: Cursor, s: State, image: &[u64], ops: &[u64], out: &mut [u8; TEXT_SIZE]) -> Cursor {
+    let step = drivelog::next(image, c);
     let name = put_text(out, 0, b"next");
     let said = put_step(out, name, step);
     let end = put_digests(out, said, image, ops, s);
@@ -199,9 +192,9 @@ pub fn next(c: Cursor, s: State, image: &[u64], ops: &[u64], out: &mut [u8]) -> 
 }
 
 // Puts what fetch answers.
-fn put_fetched(out: &mut [u8], at: usize, fetched: Fetched) -> usize
-    requires { ⌜ at < length (now out) ⌝ }
-    ensures { λ r. ⌜ r < length (now (out .entry)) ⌝ }
+fn put_fetched(out: &mut [u8; TEXT_SIZE], at: usize, fetched: Fetched) -> usize
+    requires { ⌜ Inside at ⌝ }
+    ensures { λ r. ⌜ Inside r ⌝ }
 {
     match fetched {
         Fetched::Done => put_text(out, at, b" ok"),
@@ -220,12 +213,10 @@ pub fn fetch(
     image: &[u64],
     ops: &[u64],
     output: &mut [u8],
-    out: &mut [u8],
-)
-    requires { ⌜ 0 < length (now out) ⌝ }
-{
+    out: &mut [u8; TEXT_SIZE],
+) {
     fill_bytes(output, OUTPUT_FILL);
-    let fetched = scan::fetch(image, pos, len, output);
+    let fetched = drivelog::fetch(image, pos, len, output);
     let name = put_text(out, 0, b"fetch");
     let said = put_fetched(out, name, fetched);
     let digests = put_digests(out, said, image, ops, s);

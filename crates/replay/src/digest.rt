@@ -1,8 +1,8 @@
 // Digests of lists of values: from 7 on, each value x takes h to (31 h + x mod p) mod p, p the prime 2^31 − 1.
 // The contracts say that a digest is below the prime, so that the next step does not wrap.
-use state::Entry;
-use state::State;
-use state::TABLE_SIZE;
+use drivelog::Entry;
+use drivelog::State;
+use drivelog::TABLE_SIZE;
 use state::stage_number;
 ghost use mathlib.Core.Path.{_≡_};
 ghost use Prim.Native.Nat.{_<_};

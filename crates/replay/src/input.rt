@@ -87,7 +87,8 @@ pub fn read_command() -> Command {
     Command::Call(number, args)
 }
 
-// Reads `count` bytes rounded up to whole words, and tells whether all were there.
+// Reads `count` bytes rounded up to whole words, and tells whether all were there. They do not fit only in a buffer that is
+// not of whole words itself.
 pub fn read_payload(bytes: &mut [u8], count: usize) -> bool
     requires { ⌜ count ≤ length (now bytes) ⌝ }
 {

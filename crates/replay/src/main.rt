@@ -8,23 +8,22 @@ mod output;
 mod print;
 mod setup;
 
+use drivelog::Cursor;
+use drivelog::State;
 use input::Args;
 use input::Command;
 use input::read_command;
 use input::read_payload;
-use scan::Cursor;
-use state::State;
-ghost use Prim.Native.Nat.{_≤_, _<_};
+use output::TEXT_SIZE;
+ghost use Prim.Native.Nat.{_≤_};
 ghost use lib.ListN.{length};
 
-// The most words of the image and of the op buffer, and bytes of a copy or a fetch; bytes of the text buffer.
+// The most words of the image and of the op buffer, and bytes of a copy or a fetch.
 const MAX_IMAGE: usize = 9000;
 
 const MAX_OPS: usize = 26000;
 
 const MAX_BYTES: usize = 2048;
-
-const TEXT_SIZE: usize = 4096;
 
 // What the calls work on besides the arrays: how many words of each are used, the state, the cursor. `ended` is set where
 // the script ends.
@@ -66,8 +65,7 @@ fn stop(session: Session) -> Session
 }
 
 // Prints that a word is no command, or exceeds a limit, and ends the script.
-fn stop_bad(session: Session, number: u64, out: &mut [u8]) -> Session
-    requires { ⌜ 0 < length (now out) ⌝ }
+fn stop_bad(session: Session, number: u64, out: &mut [u8; TEXT_SIZE]) -> Session
     ensures { λ r. ⌜ (r .«image_words» ≤ session .«image_words») × (r .«ops_words» ≤ session .«ops_words») ⌝ }
 {
     let name = output::put_text(out, 0, b"bad");
@@ -95,8 +93,8 @@ fn with_cursor(session: Session, c: Cursor) -> Session
 }
 
 // The image becomes `args.first` words of value `args.second`.
-fn set_image(session: Session, args: Args, image: &mut [u64], out: &mut [u8]) -> Session
-    requires { ⌜ (session .«image_words» ≤ length (now image)) × (0 < length (now out)) ⌝ }
+fn set_image(session: Session, args: Args, image: &mut [u64], out: &mut [u8; TEXT_SIZE]) -> Session
+    requires { ⌜ session .«image_words» ≤ length (now image) ⌝ }
     ensures { λ r. ⌜ (r .«image_words» ≤ length (now (image .entry))) × (r .«ops_words» ≤ session .«ops_words») ⌝ }
 {
     let count = args.first;
@@ -111,8 +109,8 @@ fn set_image(session: Session, args: Args, image: &mut [u64], out: &mut [u8]) ->
 }
 
 // The op buffer becomes `args.first` words of value `args.second`.
-fn set_ops(session: Session, args: Args, ops: &mut [u64], out: &mut [u8]) -> Session
-    requires { ⌜ (session .«ops_words» ≤ length (now ops)) × (0 < length (now out)) ⌝ }
+fn set_ops(session: Session, args: Args, ops: &mut [u64], out: &mut [u8; TEXT_SIZE]) -> Session
+    requires { ⌜ session .«ops_words» ≤ length (now ops) ⌝ }
     ensures { λ r. ⌜ (r .«image_words» ≤ session .«image_words») × (r .«ops_words» ≤ length (now (ops .entry))) ⌝ }
 {
     let count = args.first;
@@ -155,9 +153,9 @@ fn set_up(
     args: Args,
     image: &mut [u64],
     ops: &mut [u64],
-    out: &mut [u8],
+    out: &mut [u8; TEXT_SIZE],
 ) -> Session
-    requires { ⌜ (session .«image_words» ≤ length (now image)) × (session .«ops_words» ≤ length (now ops)) × (0 < length (now out)) ⌝ }
+    requires { ⌜ (session .«image_words» ≤ length (now image)) × (session .«ops_words» ≤ length (now ops)) ⌝ }
     ensures { λ r. ⌜ (r .«image_words» ≤ length (now (image .entry))) × (r .«ops_words» ≤ length (now (ops .entry))) ⌝ }
 {
     if number == 1 {
@@ -187,9 +185,9 @@ fn write(
     image: &mut [u64],
     ops: &mut [u64],
     bytes: &mut [u8],
-    out: &mut [u8],
+    out: &mut [u8; TEXT_SIZE],
 ) -> Session
-    requires { ⌜ (session .«image_words» ≤ length (now image)) × (session .«ops_words» ≤ length (now ops)) × (0 < length (now out)) ⌝ }
+    requires { ⌜ (session .«image_words» ≤ length (now image)) × (session .«ops_words» ≤ length (now ops)) ⌝ }
     ensures { λ r. ⌜ (r .«image_words» ≤ session .«image_words») × (r .«ops_words» ≤ session .«ops_words») ⌝ }
 {
     let size = payload_size(number, args);
@@ -222,9 +220,8 @@ fn fetch(
     image: &[u64],
     ops: &[u64],
     bytes: &mut [u8],
-    out: &mut [u8],
+    out: &mut [u8; TEXT_SIZE],
 ) -> Session
-    requires { ⌜ 0 < length (now out) ⌝ }
     ensures { λ r. ⌜ (r .«image_words» ≤ session .«image_words») × (r .«ops_words» ≤ session .«ops_words») ⌝ }
 {
     let size = args.third;
@@ -253,9 +250,8 @@ fn read(
     image: &[u64],
     ops: &[u64],
     bytes: &mut [u8],
-    out: &mut [u8],
+    out: &mut [u8; TEXT_SIZE],
 ) -> Session
-    requires { ⌜ 0 < length (now out) ⌝ }
     ensures { λ r. ⌜ (r .«image_words» ≤ session .«image_words») × (r .«ops_words» ≤ session .«ops_words») ⌝ }
 {
     let s = session.state;
@@ -287,9 +283,9 @@ fn command(
     image: &mut [u64],
     ops: &mut [u64],
     bytes: &mut [u8],
-    out: &mut [u8],
+    out: &mut [u8; TEXT_SIZE],
 ) -> Session
-    requires { ⌜ (session .«image_words» ≤ length (now image)) × (session .«ops_words» ≤ length (now ops)) × (0 < length (now out)) ⌝ }
+    requires { ⌜ (session .«image_words» ≤ length (now image)) × (session .«ops_words» ≤ length (now ops)) ⌝ }
     ensures { λ r. ⌜ (r .«image_words» ≤ length (now (image .entry))) × (r .«ops_words» ≤ length (now (ops .entry))) ⌝ }
 {
     if number < 10 {
@@ -309,9 +305,9 @@ fn step(
     image: &mut [u64],
     ops: &mut [u64],
     bytes: &mut [u8],
-    out: &mut [u8],
+    out: &mut [u8; TEXT_SIZE],
 ) -> Session
-    requires { ⌜ (session .«image_words» ≤ length (now image)) × (session .«ops_words» ≤ length (now ops)) × (0 < length (now out)) ⌝ }
+    requires { ⌜ (session .«image_words» ≤ length (now image)) × (session .«ops_words» ≤ length (now ops)) ⌝ }
     ensures { λ r. ⌜ (r .«image_words» ≤ length (now (image .entry))) × (r .«ops_words» ≤ length (now (ops .entry))) ⌝ }
 {
     let next = read_command();
@@ -324,9 +320,7 @@ fn step(
 
 // Carries out the commands of the script. A proved loop has to end, and nothing says that the input does, so it counts
 // its turns down from a number that no run uses up.
-fn run(image: &mut [u64], ops: &mut [u64], bytes: &mut [u8], out: &mut [u8])
-    requires { ⌜ 0 < length (now out) ⌝ }
-{
+fn run(image: &mut [u64], ops: &mut [u64], bytes: &mut [u8], out: &mut [u8; TEXT_SIZE]) {
     let mut session = start();
     let mut turns: u64 = 18446744073709551615;
     while turns > 0 {

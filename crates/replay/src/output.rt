@@ -1,27 +1,38 @@
 // Lines of text on standard output, by way of a lent buffer. Each function puts its text from an index on and answers the
 // index behind it; a full buffer is written out, so that a line may be of any length.
 // The contracts say that the index stays inside the buffer.
-ghost use Prim.Native.Nat.{_<_};
+ghost use Prim.Native.Nat.{_≤_};
 ghost use lib.ListN.{length};
+ghost use Rattle.replay.specs.Text.{Inside};
+
+// The bytes of the buffer.
+pub const TEXT_SIZE: usize = 4096;
+
+// Writes out the first `n` bytes of a text.
+fn write_front(text: &[u8], n: usize)
+    requires { ⌜ n ≤ length (now text) ⌝ }
+{
+    io::write_all(libc::STDOUT_FILENO, &text[..n]);
+}
 
 // Puts one byte.
-pub fn put_byte(out: &mut [u8], at: usize, byte: u8) -> usize
-    requires { ⌜ at < length (now out) ⌝ }
-    ensures { λ r. ⌜ r < length (now (out .entry)) ⌝ }
+pub fn put_byte(out: &mut [u8; TEXT_SIZE], at: usize, byte: u8) -> usize
+    requires { ⌜ Inside at ⌝ }
+    ensures { λ r. ⌜ Inside r ⌝ }
 {
     out[at] = byte;
     let next = at + 1;
-    if next < out.len() {
+    if next < TEXT_SIZE {
         return next;
     }
-    io::write_all(libc::STDOUT_FILENO, out);
+    write_front(out, TEXT_SIZE);
     0
 }
 
 // Puts bytes as they are.
-pub fn put_text(out: &mut [u8], at: usize, text: &[u8]) -> usize
-    requires { ⌜ at < length (now out) ⌝ }
-    ensures { λ r. ⌜ r < length (now (out .entry)) ⌝ }
+pub fn put_text(out: &mut [u8; TEXT_SIZE], at: usize, text: &[u8]) -> usize
+    requires { ⌜ Inside at ⌝ }
+    ensures { λ r. ⌜ Inside r ⌝ }
 {
     let mut next = at;
     let mut i: usize = 0;
@@ -33,9 +44,9 @@ pub fn put_text(out: &mut [u8], at: usize, text: &[u8]) -> usize
 }
 
 // Puts a number in decimal.
-pub fn put_number(out: &mut [u8], at: usize, n: u64) -> usize
-    requires { ⌜ at < length (now out) ⌝ }
-    ensures { λ r. ⌜ r < length (now (out .entry)) ⌝ }
+pub fn put_number(out: &mut [u8; TEXT_SIZE], at: usize, n: u64) -> usize
+    requires { ⌜ Inside at ⌝ }
+    ensures { λ r. ⌜ Inside r ⌝ }
 {
     let mut digits = [0u8; 20];
     let k = io::decimal(n, &mut digits);
@@ -43,18 +54,18 @@ pub fn put_number(out: &mut [u8], at: usize, n: u64) -> usize
 }
 
 // Puts a blank and a number.
-pub fn put_field(out: &mut [u8], at: usize, n: u64) -> usize
-    requires { ⌜ at < length (now out) ⌝ }
-    ensures { λ r. ⌜ r < length (now (out .entry)) ⌝ }
+pub fn put_field(out: &mut [u8; TEXT_SIZE], at: usize, n: u64) -> usize
+    requires { ⌜ Inside at ⌝ }
+    ensures { λ r. ⌜ Inside r ⌝ }
 {
     let next = put_byte(out, at, b' ');
     put_number(out, next, n)
 }
 
 // Puts numbers, each behind a blank.
-pub fn put_fields(out: &mut [u8], at: usize, values: &[u64]) -> usize
-    requires { ⌜ at < length (now out) ⌝ }
-    ensures { λ r. ⌜ r < length (now (out .entry)) ⌝ }
+pub fn put_fields(out: &mut [u8; TEXT_SIZE], at: usize, values: &[u64]) -> usize
+    requires { ⌜ Inside at ⌝ }
+    ensures { λ r. ⌜ Inside r ⌝ }
 {
     let mut next = at;
     let mut i: usize = 0;
@@ -66,9 +77,9 @@ pub fn put_fields(out: &mut [u8], at: usize, values: &[u64]) -> usize
 }
 
 // Ends the line and writes it out, so that whoever waits for it has it.
-pub fn end_line(out: &mut [u8], at: usize)
-    requires { ⌜ at < length (now out) ⌝ }
+pub fn end_line(out: &mut [u8; TEXT_SIZE], at: usize)
+    requires { ⌜ Inside at ⌝ }
 {
     let end = put_byte(out, at, b'\n');
-    io::write_all(libc::STDOUT_FILENO, &out[..end]);
+    write_front(out, end);
 }

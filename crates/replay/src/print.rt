@@ -1,34 +1,35 @@
 // What a line shows: a refusal, an answer, the ops in the op buffer, the digests, the state.
 // The contracts say, as those of output.rt, that the index stays inside the text buffer.
 use crate::digest;
+use crate::output::TEXT_SIZE;
 use crate::output::end_line;
 use crate::output::put_byte;
 use crate::output::put_field;
 use crate::output::put_fields;
 use crate::output::put_number;
 use crate::output::put_text;
-use journal::Answer;
-use refusal::Refusal;
-use state::Entry;
-use state::State;
-use state::TABLE_SIZE;
-ghost use Prim.Native.Nat.{_<_, _≤_};
-ghost use lib.ListN.{length};
+use drivelog::Answer;
+use drivelog::Entry;
+use drivelog::Refusal;
+use drivelog::State;
+use drivelog::TABLE_SIZE;
+ghost use Prim.Native.Nat.{_≤_};
+ghost use Rattle.replay.specs.Text.{Inside};
 
 // Puts a refusal's number and detail.
-pub fn put_refusal(out: &mut [u8], at: usize, r: Refusal) -> usize
-    requires { ⌜ at < length (now out) ⌝ }
-    ensures { λ r. ⌜ r < length (now (out .entry)) ⌝ }
+pub fn put_refusal(out: &mut [u8; TEXT_SIZE], at: usize, r: Refusal) -> usize
+    requires { ⌜ Inside at ⌝ }
+    ensures { λ r. ⌜ Inside r ⌝ }
 {
     let next = put_text(out, at, b" refused");
-    let values = [refusal::number_of(r), refusal::detail_of(r)];
+    let values = [drivelog::number_of(r), drivelog::detail_of(r)];
     put_fields(out, next, &values)
 }
 
 // Puts the place of a new record.
-fn put_reserved(out: &mut [u8], at: usize, lsn: u64, pos: u64) -> usize
-    requires { ⌜ at < length (now out) ⌝ }
-    ensures { λ r. ⌜ r < length (now (out .entry)) ⌝ }
+fn put_reserved(out: &mut [u8; TEXT_SIZE], at: usize, lsn: u64, pos: u64) -> usize
+    requires { ⌜ Inside at ⌝ }
+    ensures { λ r. ⌜ Inside r ⌝ }
 {
     let next = put_text(out, at, b" ok");
     let values = [lsn, pos];
@@ -36,9 +37,9 @@ fn put_reserved(out: &mut [u8], at: usize, lsn: u64, pos: u64) -> usize
 }
 
 // Puts the answer of a writing call.
-pub fn put_answer(out: &mut [u8], at: usize, answer: Answer) -> usize
-    requires { ⌜ at < length (now out) ⌝ }
-    ensures { λ r. ⌜ r < length (now (out .entry)) ⌝ }
+pub fn put_answer(out: &mut [u8; TEXT_SIZE], at: usize, answer: Answer) -> usize
+    requires { ⌜ Inside at ⌝ }
+    ensures { λ r. ⌜ Inside r ⌝ }
 {
     match answer {
         Answer::Done => put_text(out, at, b" ok"),
@@ -50,9 +51,9 @@ pub fn put_answer(out: &mut [u8], at: usize, answer: Answer) -> usize
 }
 
 // Puts one op: a store's word and value, or a flush's first word and count.
-fn put_op(out: &mut [u8], at: usize, tag: u64, word: u64, value: u64) -> usize
-    requires { ⌜ at < length (now out) ⌝ }
-    ensures { λ r. ⌜ r < length (now (out .entry)) ⌝ }
+fn put_op(out: &mut [u8; TEXT_SIZE], at: usize, tag: u64, word: u64, value: u64) -> usize
+    requires { ⌜ Inside at ⌝ }
+    ensures { λ r. ⌜ Inside r ⌝ }
 {
     let letter = if tag == 1 { b's' } else { b'f' };
     let blank = put_byte(out, at, b' ');
@@ -68,9 +69,9 @@ fn least(a: usize, b: usize) -> usize
 }
 
 // Puts the count of ops, and each op as it stands in the op buffer.
-pub fn put_ops(out: &mut [u8], at: usize, ops: &[u64], count: usize) -> usize
-    requires { ⌜ at < length (now out) ⌝ }
-    ensures { λ r. ⌜ r < length (now (out .entry)) ⌝ }
+pub fn put_ops(out: &mut [u8; TEXT_SIZE], at: usize, ops: &[u64], count: usize) -> usize
+    requires { ⌜ Inside at ⌝ }
+    ensures { λ r. ⌜ Inside r ⌝ }
 {
     let orders = put_text(out, at, b" orders");
     let mut next = put_field(out, orders, count as u64);
@@ -85,9 +86,15 @@ pub fn put_ops(out: &mut [u8], at: usize, ops: &[u64], count: usize) -> usize
 }
 
 // Puts the digests of the image, the op buffer and the state.
-pub fn put_digests(out: &mut [u8], at: usize, image: &[u64], ops: &[u64], s: State) -> usize
-    requires { ⌜ at < length (now out) ⌝ }
-    ensures { λ r. ⌜ r < length (now (out .entry)) ⌝ }
+pub fn put_digests(
+    out: &mut [u8; TEXT_SIZE],
+    at: usize,
+    image: &[u64],
+    ops: &[u64],
+    s: State,
+) -> usize
+    requires { ⌜ Inside at ⌝ }
+    ensures { λ r. ⌜ Inside r ⌝ }
 {
     let next = put_text(out, at, b" =");
     let values = [
@@ -99,9 +106,9 @@ pub fn put_digests(out: &mut [u8], at: usize, image: &[u64], ops: &[u64], s: Sta
 }
 
 // Puts a table entry: its index, its three numbers and its stage's.
-fn put_entry(out: &mut [u8], at: usize, i: usize, e: Entry) -> usize
-    requires { ⌜ at < length (now out) ⌝ }
-    ensures { λ r. ⌜ r < length (now (out .entry)) ⌝ }
+fn put_entry(out: &mut [u8; TEXT_SIZE], at: usize, i: usize, e: Entry) -> usize
+    requires { ⌜ Inside at ⌝ }
+    ensures { λ r. ⌜ Inside r ⌝ }
 {
     let stage = e.stage;
     let values = [
@@ -117,9 +124,9 @@ fn put_entry(out: &mut [u8], at: usize, i: usize, e: Entry) -> usize
 }
 
 // Puts a table entry unless it is free.
-fn put_live(out: &mut [u8], at: usize, i: usize, e: Entry) -> usize
-    requires { ⌜ at < length (now out) ⌝ }
-    ensures { λ r. ⌜ r < length (now (out .entry)) ⌝ }
+fn put_live(out: &mut [u8; TEXT_SIZE], at: usize, i: usize, e: Entry) -> usize
+    requires { ⌜ Inside at ⌝ }
+    ensures { λ r. ⌜ Inside r ⌝ }
 {
     let stage = e.stage;
     if state::is_free(stage) {
@@ -129,9 +136,7 @@ fn put_live(out: &mut [u8], at: usize, i: usize, e: Entry) -> usize
 }
 
 // Prints the state: its eight fields, and the table entries that are not free.
-pub fn print_state(out: &mut [u8], s: State)
-    requires { ⌜ 0 < length (now out) ⌝ }
-{
+pub fn print_state(out: &mut [u8; TEXT_SIZE], s: State) {
     let fields = digest::fields_of(s);
     let name = put_text(out, 0, b"state");
     let mut at = put_fields(out, name, &fields);
@@ -145,9 +150,7 @@ pub fn print_state(out: &mut [u8], s: State)
 }
 
 // Prints `count` words of the image from `first` on, as far as they exist.
-pub fn print_words(out: &mut [u8], image: &[u64], first: u64, count: u64)
-    requires { ⌜ 0 < length (now out) ⌝ }
-{
+pub fn print_words(out: &mut [u8; TEXT_SIZE], image: &[u64], first: u64, count: u64) {
     let at = put_text(out, 0, b"words");
     if image.len() as u64 <= first {
         end_line(out, at);

@@ -1,9 +1,9 @@
 // The commands that set up what the calls work on: words of an array, state fields, table entries.
 use crate::input::Args;
-use state::Entry;
-use state::Stage;
-use state::State;
-use state::TABLE_SIZE;
+use drivelog::Entry;
+use drivelog::Stage;
+use drivelog::State;
+use drivelog::TABLE_SIZE;
 use state::fresh_table;
 
 // The state at the start of a script: all zero.

@@ -8,9 +8,6 @@ use Rattle.replay.proofs.fetch.Tie as tie
 stop-bad-requires : tie.Need-stop-bad-requires
 stop-bad-requires c κs = search needs
 
-same-length : tie.Need-same-length
-same-length c = search needs
-
 returns : tie.Need-returns
 returns c = search needs
 
@@ -23,11 +20,8 @@ slice-aggregate-fetch c = front _ _ (search needs)
 fetch-requires : tie.Need-fetch-requires
 fetch-requires c κs = search needs
 
-same-length-2 : tie.Need-same-length-2
-same-length-2 c = search needs
-
-same-length-3 : tie.Need-same-length-3
-same-length-3 c = search needs
+same-length : tie.Need-same-length
+same-length c = search needs
 
 returns-2 : tie.Need-returns-2
 returns-2 c = search needs
@@ -37,11 +31,9 @@ fetch-spec =
     tie.close
     (tie.spec
     stop-bad-requires
-    same-length
     returns
     slice-relend-prefix-fetch
     slice-aggregate-fetch
     fetch-requires
-    same-length-2
-    same-length-3
+    same-length
     returns-2)

@@ -1,14 +1,14 @@
 -- `replay::run` is safe and ends: the used words stay inside their arrays. The measure is the number of turns left.
 -- Assumes nothing.
 use borrow.Author.Needs.{needs}
-use Prim.Native.Nat.{_≤_, _<_}
+use Prim.Native.Nat.{_≤_}
 use mathlib.Core.Path.{_≡_}
 use lib.ListN.{length}
 use Rattle.replay.proofs.run.Statement.{statement}
 use Rattle.replay.proofs.run.Tie as tie
 
 abbrev Inv-loop : tie.InvT-loop
-Inv-loop image₀ ops₀ bytes₀ out₀ session₀ turns₀ image ops bytes out session turns = (session .«image_words» ≤ length image) × (session .«ops_words» ≤ length ops) × (0 < length out) × (length image ≡ length image₀) × (length ops ≡ length ops₀) × (length bytes ≡ length bytes₀) × (length out ≡ length out₀)
+Inv-loop image₀ ops₀ bytes₀ out₀ session₀ turns₀ image ops bytes out session turns = (session .«image_words» ≤ length image) × (session .«ops_words» ≤ length ops) × (length image ≡ length image₀) × (length ops ≡ length ops₀) × (length bytes ≡ length bytes₀)
 
 abbrev μ-loop : tie.MeasureT-loop
 μ-loop image₀ ops₀ bytes₀ out₀ session₀ turns₀ image ops bytes out session turns = turns
@@ -31,9 +31,6 @@ same-length-2 c = search needs
 same-length-3 : tie.Need-same-length-3 Inv-loop μ-loop
 same-length-3 c = search needs
 
-same-length-4 : tie.Need-same-length-4 Inv-loop μ-loop
-same-length-4 c = search needs
-
 returns : tie.Need-returns Inv-loop μ-loop
 returns c = search needs
 
@@ -46,17 +43,14 @@ loop-less c = search needs
 loop-again : tie.Need-loop-again Inv-loop μ-loop
 loop-again c = search needs
 
+same-length-4 : tie.Need-same-length-4 Inv-loop μ-loop
+same-length-4 c = search needs
+
 same-length-5 : tie.Need-same-length-5 Inv-loop μ-loop
 same-length-5 c = search needs
 
 same-length-6 : tie.Need-same-length-6 Inv-loop μ-loop
 same-length-6 c = search needs
-
-same-length-7 : tie.Need-same-length-7 Inv-loop μ-loop
-same-length-7 c = search needs
-
-same-length-8 : tie.Need-same-length-8 Inv-loop μ-loop
-same-length-8 c = search needs
 
 returns-2 : tie.Need-returns-2 Inv-loop μ-loop
 returns-2 c = search needs
@@ -73,13 +67,11 @@ run-spec =
     same-length
     same-length-2
     same-length-3
-    same-length-4
     returns
     sub-turns
     loop-less
     loop-again
+    same-length-4
     same-length-5
     same-length-6
-    same-length-7
-    same-length-8
     returns-2)

@@ -8,9 +8,6 @@ use Rattle.replay.proofs.set_ops.Tie as tie
 stop-bad-requires : tie.Need-stop-bad-requires
 stop-bad-requires c κs = search needs
 
-same-length : tie.Need-same-length
-same-length c = search needs
-
 returns : tie.Need-returns
 returns c = search needs
 
@@ -23,8 +20,8 @@ slice-aggregate-fill-words c = front _ _ (search needs)
 fill-words-requires : tie.Need-fill-words-requires
 fill-words-requires c κs = search needs
 
-same-length-2 : tie.Need-same-length-2
-same-length-2 c = search needs
+same-length : tie.Need-same-length
+same-length c = search needs
 
 returns-2 : tie.Need-returns-2
 returns-2 c = search needs
@@ -34,10 +31,9 @@ set-ops-spec =
     tie.close
     (tie.spec
     stop-bad-requires
-    same-length
     returns
     slice-relend-prefix-fill-words
     slice-aggregate-fill-words
     fill-words-requires
-    same-length-2
+    same-length
     returns-2)

@@ -11,9 +11,6 @@ set-image-requires c κs = search needs
 same-length : tie.Need-same-length
 same-length c = search needs
 
-same-length-2 : tie.Need-same-length-2
-same-length-2 c = search needs
-
 returns : tie.Need-returns
 returns c = search needs
 
@@ -26,8 +23,8 @@ slice-aggregate-poke c = front _ _ (search needs)
 poke-requires : tie.Need-poke-requires
 poke-requires c κs = search needs
 
-same-length-3 : tie.Need-same-length-3
-same-length-3 c = search needs
+same-length-2 : tie.Need-same-length-2
+same-length-2 c = search needs
 
 returns-2 : tie.Need-returns-2
 returns-2 c = search needs
@@ -35,11 +32,8 @@ returns-2 c = search needs
 set-ops-requires : tie.Need-set-ops-requires
 set-ops-requires c κs = search needs
 
-same-length-4 : tie.Need-same-length-4
-same-length-4 c = search needs
-
-same-length-5 : tie.Need-same-length-5
-same-length-5 c = search needs
+same-length-3 : tie.Need-same-length-3
+same-length-3 c = search needs
 
 returns-3 : tie.Need-returns-3
 returns-3 c = search needs
@@ -56,16 +50,14 @@ set-up-spec =
     (tie.spec
     set-image-requires
     same-length
-    same-length-2
     returns
     slice-relend-prefix-poke
     slice-aggregate-poke
     poke-requires
-    same-length-3
+    same-length-2
     returns-2
     set-ops-requires
-    same-length-4
-    same-length-5
+    same-length-3
     returns-3
     set-value-requires
     returns-4)

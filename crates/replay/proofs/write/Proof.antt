@@ -11,9 +11,6 @@ payload-size-requires c κs = search needs
 stop-bad-requires : tie.Need-stop-bad-requires
 stop-bad-requires c κs = search needs
 
-same-length : tie.Need-same-length
-same-length c = search needs
-
 returns : tie.Need-returns
 returns c = search needs
 
@@ -23,8 +20,8 @@ read-payload-requires c κs = search needs
 stop-requires : tie.Need-stop-requires
 stop-requires c κs = search needs
 
-same-length-2 : tie.Need-same-length-2
-same-length-2 c = search needs
+same-length : tie.Need-same-length
+same-length c = search needs
 
 returns-2 : tie.Need-returns-2
 returns-2 c = search needs
@@ -53,17 +50,14 @@ write-requires c κs = search needs
 with-state-requires : tie.Need-with-state-requires
 with-state-requires c κs = search needs
 
+same-length-2 : tie.Need-same-length-2
+same-length-2 c = search needs
+
 same-length-3 : tie.Need-same-length-3
 same-length-3 c = search needs
 
 same-length-4 : tie.Need-same-length-4
 same-length-4 c = search needs
-
-same-length-5 : tie.Need-same-length-5
-same-length-5 c = search needs
-
-same-length-6 : tie.Need-same-length-6
-same-length-6 c = search needs
 
 returns-3 : tie.Need-returns-3
 returns-3 c = search needs
@@ -74,11 +68,10 @@ write-spec =
     (tie.spec
     payload-size-requires
     stop-bad-requires
-    same-length
     returns
     read-payload-requires
     stop-requires
-    same-length-2
+    same-length
     returns-2
     slice-relend-prefix-write
     slice-aggregate-write
@@ -88,8 +81,7 @@ write-spec =
     slice-aggregate-write-3
     write-requires
     with-state-requires
+    same-length-2
     same-length-3
     same-length-4
-    same-length-5
-    same-length-6
     returns-3)

@@ -1,14 +1,14 @@
 -- `replay::output::put_fields` is safe and ends: the index stays inside the buffer.
 -- Assumes nothing.
 use borrow.Author.Needs.{needs}
-use Prim.Native.Nat.{_-_, _≤_, _<_}
-use mathlib.Core.Path.{_≡_}
+use Prim.Native.Nat.{_-_, _≤_}
 use lib.ListN.{length}
+use Rattle.replay.specs.Text.{Inside}
 use Rattle.replay.proofs.output.put_fields.Statement.{statement}
 use Rattle.replay.proofs.output.put_fields.Tie as tie
 
 abbrev Inv-loop : tie.InvT-loop
-Inv-loop out₀ at values next₀ i₀ out next i = (i ≤ length values) × (next < length out) × (length out ≡ length out₀)
+Inv-loop out₀ at values next₀ i₀ out next i = (i ≤ length values) × Inside next
 
 abbrev μ-loop : tie.MeasureT-loop
 μ-loop out₀ at values next₀ i₀ out next i = length values - i
@@ -34,9 +34,6 @@ loop-less c = search needs
 loop-again : tie.Need-loop-again Inv-loop μ-loop
 loop-again c = search needs
 
-same-length : tie.Need-same-length Inv-loop μ-loop
-same-length c = search needs
-
 returns : tie.Need-returns Inv-loop μ-loop
 returns c = search needs
 
@@ -53,5 +50,4 @@ put-fields-spec =
     add-i
     loop-less
     loop-again
-    same-length
     returns)

@@ -1,14 +1,14 @@
 -- `replay::output::put_text` is safe and ends: the index stays inside the buffer.
 -- Assumes nothing.
 use borrow.Author.Needs.{needs}
-use Prim.Native.Nat.{_-_, _≤_, _<_}
-use mathlib.Core.Path.{_≡_}
+use Prim.Native.Nat.{_-_, _≤_}
 use lib.ListN.{length}
+use Rattle.replay.specs.Text.{Inside}
 use Rattle.replay.proofs.output.put_text.Statement.{statement}
 use Rattle.replay.proofs.output.put_text.Tie as tie
 
 abbrev Inv-loop : tie.InvT-loop
-Inv-loop out₀ at text next₀ i₀ out next i = (i ≤ length text) × (next < length out) × (length out ≡ length out₀)
+Inv-loop out₀ at text next₀ i₀ out next i = (i ≤ length text) × Inside next
 
 abbrev μ-loop : tie.MeasureT-loop
 μ-loop out₀ at text next₀ i₀ out next i = length text - i
@@ -31,9 +31,6 @@ loop-less c = search needs
 loop-again : tie.Need-loop-again Inv-loop μ-loop
 loop-again c = search needs
 
-same-length : tie.Need-same-length Inv-loop μ-loop
-same-length c = search needs
-
 returns : tie.Need-returns Inv-loop μ-loop
 returns c = search needs
 
@@ -49,5 +46,4 @@ put-text-spec =
     add-i
     loop-less
     loop-again
-    same-length
     returns)

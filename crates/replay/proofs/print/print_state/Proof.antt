@@ -1,14 +1,13 @@
 -- `replay::print::print_state` is safe and ends: the index stays inside the buffer.
 -- Assumes nothing.
 use borrow.Author.Needs.{needs}
-use Prim.Native.Nat.{_-_, _≤_, _<_}
-use mathlib.Core.Path.{_≡_}
-use lib.ListN.{length}
+use Prim.Native.Nat.{_-_, _≤_}
+use Rattle.replay.specs.Text.{Inside}
 use Rattle.replay.proofs.print.print_state.Statement.{statement}
 use Rattle.replay.proofs.print.print_state.Tie as tie
 
 abbrev Inv-loop : tie.InvT-loop
-Inv-loop out₀ s name at₀ i₀ out at i = (i ≤ 64) × (at < length out) × (length out ≡ length out₀)
+Inv-loop out₀ s name at₀ i₀ out at i = (i ≤ 64) × Inside at
 
 abbrev μ-loop : tie.MeasureT-loop
 μ-loop out₀ s name at₀ i₀ out at i = 64 - i
@@ -52,9 +51,6 @@ loop-again c = search needs
 end-line-requires : tie.Need-end-line-requires Inv-loop μ-loop
 end-line-requires c κs = search needs
 
-same-length : tie.Need-same-length Inv-loop μ-loop
-same-length c = search needs
-
 returns : tie.Need-returns Inv-loop μ-loop
 returns c = search needs
 
@@ -77,5 +73,4 @@ print-state-spec =
     loop-less
     loop-again
     end-line-requires
-    same-length
     returns)

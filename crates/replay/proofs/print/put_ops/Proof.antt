@@ -1,14 +1,14 @@
 -- `replay::print::put_ops` is safe and ends: at most a third of the op buffer's words are ops.
 -- Assumes nothing.
 use borrow.Author.Needs.{needs}
-use Prim.Native.Nat.{_-_, _*_, _≤_, _<_}
-use mathlib.Core.Path.{_≡_}
+use Prim.Native.Nat.{_-_, _*_, _≤_}
 use lib.ListN.{length}
+use Rattle.replay.specs.Text.{Inside}
 use Rattle.replay.proofs.print.put_ops.Statement.{statement}
 use Rattle.replay.proofs.print.put_ops.Tie as tie
 
 abbrev Inv-loop : tie.InvT-loop
-Inv-loop out₀ at ops count orders next₀ end k₀ out next k = (k ≤ end) × (3 * end ≤ length ops) × (next < length out) × (length out ≡ length out₀)
+Inv-loop out₀ at ops count orders next₀ end k₀ out next k = (k ≤ end) × (3 * end ≤ length ops) × Inside next
 
 abbrev μ-loop : tie.MeasureT-loop
 μ-loop out₀ at ops count orders next₀ end k₀ out next k = end - k
@@ -67,9 +67,6 @@ loop-less c = search needs
 loop-again : tie.Need-loop-again Inv-loop μ-loop
 loop-again c = search needs
 
-same-length : tie.Need-same-length Inv-loop μ-loop
-same-length c = search needs
-
 returns : tie.Need-returns Inv-loop μ-loop
 returns c = search needs
 
@@ -97,5 +94,4 @@ put-ops-spec =
     add-k
     loop-less
     loop-again
-    same-length
     returns)

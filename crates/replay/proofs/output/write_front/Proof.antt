@@ -1,0 +1,18 @@
+-- `replay::output::write_front` is safe: what is written out lies inside the text.
+-- Assumes nothing.
+use borrow.Author.Needs.{needs}
+use Rattle.io.proofs.Counting.{front}
+use Rattle.replay.proofs.output.write_front.Statement.{statement}
+use Rattle.replay.proofs.output.write_front.Tie as tie
+
+slice-aggregate-write-all : tie.Need-slice-aggregate-write-all
+slice-aggregate-write-all c = front _ _ (search needs)
+
+write-all-requires : tie.Need-write-all-requires
+write-all-requires c κs = search needs
+
+returns : tie.Need-returns
+returns c = search needs
+
+pub write-front-spec : {M : Type 1} → statement M
+write-front-spec = tie.close (tie.spec slice-aggregate-write-all write-all-requires returns)
