@@ -1,0 +1,131 @@
+// The jobs: each sets its work up, does it between two looks at the clock, and takes a CRC-32 of what is left.
+use crate::log;
+use crate::room;
+use listing::words_from;
+ghost use Prim.Native.Nat.{_*_, _≤_};
+ghost use lib.ListN.{length};
+ghost use Rattle.listing.specs.Listing.{listingRoom};
+
+// What to do: the job's number, the bytes of a record, the live records, how often, and the words of the image.
+pub struct Job {
+    pub number: u64,
+    pub bytes: u64,
+    pub live: u64,
+    pub count: u64,
+    pub words: u64,
+}
+
+// What a job came to: the processor time, and a CRC-32 of what it left.
+pub struct Done {
+    pub microseconds: u64,
+    pub digest: u64,
+}
+
+// What the clock answered as a count: 0 if it has no time to tell.
+fn ticks(t: i64) -> u64 {
+    if t < 0 {
+        return 0;
+    }
+    t as u64
+}
+
+// A look at the clock, which counts microseconds of processor time.
+fn now() -> u64 {
+    ticks(libc::clock())
+}
+
+// The time since an earlier look at the clock.
+fn since(before: u64) -> u64 {
+    let after = now();
+    if after < before {
+        return 0;
+    }
+    after - before
+}
+
+// Job 1: appends, each followed by releases that leave `live` records.
+fn append_job(job: Job, image: &mut [u64], ops: &mut [u64], payload: &[u8]) -> Done {
+    let s = log::start(image, ops, payload, job.live);
+    let before = now();
+    log::append_over(s, image, ops, payload, job.live, job.count);
+    let microseconds = since(before);
+    Done {
+        microseconds,
+        digest: room::digest(image),
+    }
+}
+
+// Job 2: CRC-32s of the words of a payload, each of which then becomes their first one.
+fn crc_job(job: Job, payload: &[u8], words: &mut [u64]) -> Done
+    requires { ⌜ 8 * length (now words) ≤ length (now payload) ⌝ }
+{
+    words_from(payload, words);
+    let before = now();
+    let digest = room::digest_over(words, job.count);
+    let microseconds = since(before);
+    Done {
+        microseconds,
+        digest,
+    }
+}
+
+// Job 3: recoveries of an image with `live` records.
+fn recover_job(job: Job, image: &mut [u64], ops: &mut [u64], payload: &[u8]) -> Done {
+    log::start(image, ops, payload, job.live);
+    let before = now();
+    log::recover_over(image, ops, job.count);
+    let microseconds = since(before);
+    Done {
+        microseconds,
+        digest: room::digest(image),
+    }
+}
+
+// Job 4: listings of an image with `live` records.
+fn list_job(job: Job, image: &mut [u64], ops: &mut [u64], payload: &[u8], text: &mut [u8]) -> Done
+    requires { ⌜ listingRoom ≤ length (now text) ⌝ }
+{
+    log::start(image, ops, payload, job.live);
+    let before = now();
+    let end = log::list_over(image, text, job.count);
+    let microseconds = since(before);
+    Done {
+        microseconds,
+        digest: crc32::crc_bytes(&text[..end]) as u64,
+    }
+}
+
+// A number, taken down to a limit.
+fn limited(n: u64, limit: usize) -> usize
+    ensures { λ r. ⌜ (r ≤ limit) × (r ≤ n) ⌝ }
+{
+    if (limit as u64) < n {
+        return limit;
+    }
+    n as usize
+}
+
+// Does job 1, 3 or, for any other number, 4.
+fn job_on(job: Job, image: &mut [u64], ops: &mut [u64], payload: &[u8]) -> Done {
+    if job.number == 1 {
+        return append_job(job, image, ops, payload);
+    }
+    if job.number == 3 {
+        return recover_job(job, image, ops, payload);
+    }
+    let mut text = room::text();
+    list_job(job, image, ops, payload, &mut text)
+}
+
+// Does a job. Numbers above the limits are taken down to them.
+pub fn run(job: Job, image: &mut [u64], ops: &mut [u64], payload: &[u8]) -> Done
+    requires { ⌜ length (now payload) ≤ 1024 ⌝ }
+{
+    let k = limited(job.bytes, payload.len());
+    if job.number == 2 {
+        let n = limited((k / 8) as u64, image.len());
+        return crc_job(job, &payload[..k], &mut image[..n]);
+    }
+    let n = limited(job.words, image.len());
+    job_on(job, &mut image[..n], ops, &payload[..k])
+}

@@ -1,0 +1,102 @@
+// The log that the jobs work on: records appended, forced at every eighth, and released from the head on.
+use drivelog::State;
+use drivelog::complete;
+use drivelog::copy;
+use drivelog::force;
+use drivelog::format;
+use drivelog::recover;
+use drivelog::release;
+use drivelog::reserve;
+use listing::list_image;
+ghost use Prim.Native.Nat.{_≤_};
+ghost use lib.ListN.{length};
+ghost use Rattle.listing.specs.Listing.{listingRoom};
+
+// One record more, reserved and filled.
+fn draft(s: State, image: &mut [u64], ops: &mut [u64], payload: &[u8]) -> State {
+    let reserved = reserve(s, image, ops, 1, payload.len() as u64);
+    let copied = copy(reserved.state, image, ops, s.next_lsn, 0, payload);
+    copied.state
+}
+
+// One record more: reserved, filled, completed, and forced if its LSN is a multiple of eight.
+pub fn append(s: State, image: &mut [u64], ops: &mut [u64], payload: &[u8]) -> State {
+    let lsn = s.next_lsn;
+    let drafted = draft(s, image, ops, payload);
+    let completed = complete(drafted, image, ops, lsn);
+    let forced = force(completed.state, image, ops, lsn, 8);
+    forced.state
+}
+
+// Whether more than `live` records are live and the head is committed.
+fn is_over(head: u64, next: u64, committed: u64, live: u64) -> bool {
+    if next < head {
+        return false;
+    }
+    (head <= committed) & (live < next - head)
+}
+
+// Records released from the head on, committed ones only, until `live` are left. A proved loop has to end: 64 turns are enough.
+pub fn trim(s: State, image: &mut [u64], ops: &mut [u64], live: u64) -> State {
+    let mut t = s;
+    let mut turns: u64 = 64;
+    while 0 < turns {
+        if !is_over(t.head_lsn, t.next_lsn, t.committed_lsn, live) {
+            return t;
+        }
+        let released = release(t, image, ops, t.head_lsn);
+        t = released.state;
+        turns -= 1;
+    }
+    t
+}
+
+// So many records appended, each followed by releases that leave `live` of them.
+pub fn append_over(
+    s: State,
+    image: &mut [u64],
+    ops: &mut [u64],
+    payload: &[u8],
+    live: u64,
+    count: u64,
+) -> State {
+    let mut t = s;
+    let mut left = count;
+    while 0 < left {
+        t = append(t, image, ops, payload);
+        t = trim(t, image, ops, live);
+        left -= 1;
+    }
+    t
+}
+
+// A log with `live` records, all of them durable.
+pub fn start(image: &mut [u64], ops: &mut [u64], payload: &[u8], live: u64) -> State {
+    let formatted = format(image, ops);
+    let filled = append_over(formatted.state, image, ops, payload, live, live);
+    let forced = force(filled, image, ops, live, 1);
+    forced.state
+}
+
+// So many recoveries of an image.
+pub fn recover_over(image: &mut [u64], ops: &mut [u64], count: u64) {
+    let mut left = count;
+    while 0 < left {
+        recover(image, ops);
+        left -= 1;
+    }
+}
+
+// So many listings of an image. Returns the bytes of the text.
+pub fn list_over(image: &[u64], text: &mut [u8], count: u64) -> usize
+    requires { ⌜ listingRoom ≤ length (now text) ⌝ }
+    ensures { λ r. ⌜ r ≤ length (now (text .entry)) ⌝ }
+{
+    let mut end: usize = 0;
+    let mut left = count;
+    while 0 < left {
+        end = list_image(image, text);
+        left -= 1;
+    }
+    end
+}
