@@ -20,6 +20,9 @@ pub mod ops;
 pub mod refusal;
 pub mod state;
 
+// The same written for speed, to measure against.
+pub mod plain;
+
 // What a power failure does, and what must survive it.
 pub mod abstract_log;
 pub mod device;
