@@ -25,11 +25,8 @@ fn run<T>(ring: &[T], start: usize, count: usize) -> (&[T], &[T]) {
     }
 }
 
-/// A position or word number brought back into a ring that ends at `end`; it is less than one round beyond.
-fn wrap(number: usize, end: usize, round: usize) -> usize {
-    if number < end {
-        number
-    } else {
-        number - round
-    }
+/// A position less than one round beyond the end of the ring, brought back into it.
+fn wrap(position: usize, capacity: usize) -> usize {
+    // The difference is huge if it is below zero.
+    position.min(position.wrapping_sub(capacity))
 }
