@@ -28,6 +28,7 @@ pub mod abstract_log;
 pub mod device;
 
 // Programs.
+pub mod bench;
 pub mod compare;
 pub mod cover;
 pub mod crash;
