@@ -5,6 +5,7 @@
 //! median of each.
 
 use std::collections::BTreeMap;
+use std::fmt;
 use std::io::{self, Write};
 use std::path::Path;
 use std::process::{Command, Stdio};
@@ -76,17 +77,24 @@ impl<'a> Program<'a> {
             output.split_whitespace().map(|number| number.parse().ok()).collect();
         match numbers[..] {
             [Some(time), Some(digest)] => Ok((time, digest)),
-            _ => Err(io::Error::other(format!("{name} prints no two numbers for {case:?}"))),
+            _ => Err(io::Error::other(format!("{name} prints no two numbers for {case}"))),
         }
     }
 }
 
-#[derive(Clone, Copy, Debug, PartialEq, Eq, PartialOrd, Ord)]
+#[derive(Clone, Copy, PartialEq, Eq, PartialOrd, Ord)]
 struct Case {
     job: u64,
     bytes: u64,
     live: u64,
     words: u64,
+}
+
+impl fmt::Display for Case {
+    fn fmt(&self, f: &mut fmt::Formatter) -> fmt::Result {
+        let Case { job, bytes, live, words } = self;
+        write!(f, "job {job}, bytes {bytes}, live {live}, words {words}")
+    }
 }
 
 /// The median nanoseconds for one item of each program.
@@ -104,9 +112,11 @@ fn medians(programs: &[Program], case: Case, rounds: usize) -> Result<Vec<f64>, 
             digests.push(digest);
         }
         if digests.iter().any(|digest| *digest != digests[0]) {
-            return Err(Failure::Difference(format!(
-                "digests differ: {digests:?} for {case:?}, count {count}"
-            )));
+            let mut line = format!("digests differ for {case}, count {count}:");
+            for (program, digest) in programs.iter().zip(digests) {
+                line += &format!(" {digest} by {}", program.path.display());
+            }
+            return Err(Failure::Difference(line));
         }
     }
     let median = |mut times: Vec<u64>| {
@@ -253,16 +263,16 @@ fn growth(pair: &mut Pair, out: &mut impl Write) -> Result<(), Failure> {
 }
 
 fn pmemlog(path: Option<&Path>, rounds: usize, out: &mut impl Write) -> Result<(), Failure> {
-    writeln!(out)?;
-    let Some(path) = path else {
-        writeln!(out, "libpmemlog: skipped, no program was named for it.")?;
+    let Some(path) = path.filter(|path| path.exists()) else {
+        let why = match path {
+            Some(path) => {
+                format!("{} is not there; it is built where libpmemlog is", path.display())
+            }
+            None => "no program was named for it".to_string(),
+        };
+        writeln!(out, "\nlibpmemlog: skipped, {why}.")?;
         return Ok(());
     };
-    if !path.exists() {
-        let name = path.display();
-        writeln!(out, "libpmemlog: skipped, {name} is not there (built where libpmemlog is).")?;
-        return Ok(());
-    }
     let by_msync = Program::new(path);
     let by_lines = Program { variables: &[("PMEM_IS_PMEM_FORCE", "1")], ..by_msync };
     let mut table = Table::new(

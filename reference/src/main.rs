@@ -109,7 +109,7 @@ fn run(args: &[&str]) -> io::Result<ExitCode> {
         ["bench", proved, plain, crc, options @ ..] => {
             let (pmemlog, rounds) = match options {
                 [] => (None, 31),
-                [pmemlog] => (Some(Path::new(pmemlog)), 31),
+                [pmemlog] if !pmemlog.starts_with('-') => (Some(Path::new(pmemlog)), 31),
                 ["--rounds", rounds] => (None, parse(rounds)?),
                 [pmemlog, "--rounds", rounds] => (Some(Path::new(pmemlog)), parse(rounds)?),
                 _ => return Err(invalid(format!("not an option: {}", options.join(" ")))),

@@ -81,9 +81,8 @@ fn main() -> io::Result<()> {
     if io::stdin().lock().read_exact(&mut input).is_err() {
         return Ok(());
     }
-    let (words, _) = input.as_chunks();
-    let numbers: Vec<u64> = words.iter().map(|word| u64::from_le_bytes(*word)).collect();
-    let [job, bytes, live, count, words] = numbers[..] else { return Ok(()) };
+    let (numbers, _) = input.as_chunks();
+    let [job, bytes, live, count, words] = std::array::from_fn(|i| u64::from_le_bytes(numbers[i]));
     if (1..=1_024).contains(&bytes) && live <= 64 && (40..=8_192).contains(&words) {
         if let Some((time, digest)) = run(job, bytes, live, count, words as usize) {
             println!("{time} {digest}");
