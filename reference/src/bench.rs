@@ -1,8 +1,8 @@
 //! How long the calls take: the proved programs beside plain Rust, zlib, a byte table in C and libpmemlog, all in one run.
 //!
 //! Each program reads five words (job, bytes, live, count, words) and prints the microseconds of CPU time that its timed part took and
-//! a digest of what it left. The programs of a case take turns, round by round, and have to leave the same; what counts is the
-//! median of each.
+//! a digest of what it left. The programs of a case take turns, round by round, and have to leave the same; what counts is the median
+//! of each.
 
 use std::collections::BTreeMap;
 use std::fmt;
@@ -90,66 +90,62 @@ struct Case {
     words: u64,
 }
 
-impl fmt::Display for Case {
-    fn fmt(&self, f: &mut fmt::Formatter) -> fmt::Result {
-        let Case { job, bytes, live, words } = self;
-        write!(f, "job {job}, bytes {bytes}, live {live}, words {words}")
+impl Case {
+    fn call(&self) -> &'static str {
+        match self.job {
+            APPEND => "append",
+            CRC => "crc",
+            RECOVER => "recover",
+            _ => "list",
+        }
     }
 }
 
-/// The median nanoseconds for one item of each program.
-fn medians(programs: &[Program], case: Case, rounds: usize) -> Result<Vec<f64>, Failure> {
-    let mut count = 64;
-    while programs[0].run(case, count)?.0 < RUN_TIME && count < 1 << 30 {
-        count *= 2;
+impl fmt::Display for Case {
+    fn fmt(&self, f: &mut fmt::Formatter) -> fmt::Result {
+        let Case { bytes, live, words, .. } = self;
+        write!(f, "{}, bytes {bytes}, live {live}, words {words}", self.call())
     }
-    let mut times = vec![Vec::new(); programs.len()];
+}
+
+/// The median nanoseconds for one item, of each program of each case. Every round has all cases in it, so that a while in which the
+/// machine is slow falls on all of them.
+fn medians(cases: &[(Case, &[Program])], rounds: usize) -> Result<Vec<Vec<f64>>, Failure> {
+    let mut counts = Vec::new();
+    for (case, programs) in cases {
+        let mut count = 64;
+        while programs[0].run(*case, count)?.0 < RUN_TIME && count < 1 << 30 {
+            count *= 2;
+        }
+        counts.push(count);
+    }
+    let mut times: Vec<Vec<Vec<u64>>> =
+        cases.iter().map(|(_, programs)| vec![Vec::new(); programs.len()]).collect();
     for _ in 0..rounds {
-        let mut digests = Vec::new();
-        for (program, times) in programs.iter().zip(&mut times) {
-            let (time, digest) = program.run(case, count)?;
-            times.push(time);
-            digests.push(digest);
-        }
-        if digests.iter().any(|digest| *digest != digests[0]) {
-            let mut line = format!("digests differ for {case}, count {count}:");
-            for (program, digest) in programs.iter().zip(digests) {
-                line += &format!(" {digest} by {}", program.path.display());
+        for (((case, programs), count), times) in cases.iter().zip(&counts).zip(&mut times) {
+            let mut digests = Vec::new();
+            for (program, times) in programs.iter().zip(times) {
+                let (time, digest) = program.run(*case, *count)?;
+                times.push(time);
+                digests.push(digest);
             }
-            return Err(Failure::Difference(line));
+            if digests.iter().any(|digest| *digest != digests[0]) {
+                let mut line = format!("digests differ for {case}, count {count}:");
+                for (program, digest) in programs.iter().zip(digests) {
+                    line += &format!(" {digest} by {}", program.path.display());
+                }
+                return Err(Failure::Difference(line));
+            }
         }
     }
-    let median = |mut times: Vec<u64>| {
+    let median = |times: &mut Vec<u64>, count: u64| {
         times.sort();
         times[times.len() / 2] as f64 * 1_000.0 / count as f64
     };
-    Ok(times.into_iter().map(median).collect())
-}
-
-/// The proved program and the plain one, each case measured once.
-struct Pair<'a> {
-    programs: [Program<'a>; 2],
-    rounds: usize,
-    measured: BTreeMap<Case, (f64, f64)>,
-}
-
-impl Pair<'_> {
-    fn times(
-        &mut self,
-        job: u64,
-        bytes: u64,
-        live: u64,
-        words: u64,
-    ) -> Result<(f64, f64), Failure> {
-        let case = Case { job, bytes, live, words };
-        if let Some(times) = self.measured.get(&case) {
-            return Ok(*times);
-        }
-        let medians = medians(&self.programs, case, self.rounds)?;
-        let times = (medians[0], medians[1]);
-        self.measured.insert(case, times);
-        Ok(times)
-    }
+    let of_case = |(mut times, count): (Vec<Vec<u64>>, u64)| {
+        times.iter_mut().map(|times| median(times, count)).collect()
+    };
+    Ok(times.into_iter().zip(counts).map(of_case).collect())
 }
 
 /// Measures everything and prints the tables. `rounds` is not 0.
@@ -157,107 +153,140 @@ pub fn bench(programs: &Programs, rounds: usize, out: &mut impl Write) -> Result
     let cores = std::thread::available_parallelism()?;
     writeln!(out, "{cores} cores, {rounds} rounds, the programs by turns")?;
     writeln!(out, "CPU time, medians")?;
-    let mut pair = Pair {
-        programs: [Program::new(programs.proved), Program::new(programs.plain)],
-        rounds,
-        measured: BTreeMap::new(),
-    };
-    appends(&mut pair, out)?;
-    crcs(programs, rounds, out)?;
-    full_image(&mut pair, out)?;
-    growth(&mut pair, out)?;
+    out.flush()?;
+
+    let append = |bytes, live, words| Case { job: APPEND, bytes, live, words };
+    let appends: Vec<Case> = [64, 1_024]
+        .into_iter()
+        .flat_map(|bytes| [0, 32, 60].map(|live| append(bytes, live, LARGEST)))
+        .collect();
+    let crcs = [64, 1_024].map(|bytes| Case { job: CRC, bytes, live: 0, words: LARGEST });
+    let full_image =
+        [RECOVER, LIST].map(|job| Case { job, bytes: 991, live: FULL, words: LARGEST });
+    let scan_growth: Vec<Case> = [RECOVER, LIST]
+        .into_iter()
+        .flat_map(|job| {
+            [1_024, 2_048, 4_096, LARGEST].map(|words| {
+                // The most whole words for each record that leave one for the terminator.
+                let bytes = 8 * ((words - 24 - 1) / FULL - 3);
+                Case { job, bytes, live: FULL, words }
+            })
+        })
+        .collect();
+    let append_growth: Vec<Case> = [1_024, 4_096]
+        .map(|words| append(64, 0, words))
+        .into_iter()
+        .chain([0, 16, 32, 48, 60].map(|live| append(64, live, LARGEST)))
+        .collect();
+
+    let proved = Program::new(programs.proved);
+    let pair = [proved, Program::new(programs.plain)];
+    let crc = Program::new(programs.crc);
+    let checks = [proved, Program { args: &["zlib"], ..crc }, Program { args: &["table"], ..crc }];
+    let mut cases: Vec<(Case, &[Program])> = Vec::new();
+    for case in
+        [&appends[..], &crcs, &full_image, &scan_growth, &append_growth].into_iter().flatten()
+    {
+        // Some are in two tables.
+        if !cases.iter().any(|(other, _)| other == case) {
+            cases.push((*case, if case.job == CRC { &checks } else { &pair }));
+        }
+    }
+    let medians = medians(&cases, rounds)?;
+    let times: Times = cases.iter().map(|(case, _)| *case).zip(medians).collect();
+
+    print_appends(&appends, &times, out)?;
+    print_crcs(&crcs, &times, out)?;
+    print_full_image(&full_image, &times, out)?;
+    print_scan_growth(&scan_growth, &times, out)?;
+    print_append_growth(&append_growth, &times, out)?;
     pmemlog(programs.pmemlog, rounds, out)
 }
 
-fn appends(pair: &mut Pair, out: &mut impl Write) -> Result<(), Failure> {
+/// The medians of each case's programs.
+type Times = BTreeMap<Case, Vec<f64>>;
+
+/// Proved, plain and the ratio of the two.
+fn pair_cells(case: &Case, times: &Times) -> [String; 3] {
+    let (proved, plain) = (times[case][0], times[case][1]);
+    [ns(proved), ns(plain), ratio(proved / plain)]
+}
+
+fn print_appends(cases: &[Case], times: &Times, out: &mut impl Write) -> Result<(), Failure> {
     let mut table = Table::new(
         "Append: reserve, copy, complete, force with frequency 8, release of the oldest. Image of 8,192 words.",
         &["bytes", "live", "proved ns", "plain Rust ns", "ratio", "bar", ""],
     );
-    for bytes in [64, 1_024] {
-        for live in [0, 32, 60] {
-            let (proved, plain) = pair.times(APPEND, bytes, live, LARGEST)?;
-            let mut row = vec![grouped(bytes), grouped(live), ns(proved), ns(plain)];
-            row.extend(held_to(proved / plain, 1.6));
-            table.row(row);
-        }
+    for case in cases {
+        let mut row = vec![grouped(case.bytes), grouped(case.live)];
+        row.extend(pair_cells(case, times));
+        row.extend(bar(times[case][0] / times[case][1], 1.6));
+        table.row(row);
     }
     table.print(out)
 }
 
-fn crcs(programs: &Programs, rounds: usize, out: &mut impl Write) -> Result<(), Failure> {
-    let zlib = Program { args: &["zlib"], ..Program::new(programs.crc) };
-    let byte_table = Program { args: &["table"], ..Program::new(programs.crc) };
+fn print_crcs(cases: &[Case], times: &Times, out: &mut impl Write) -> Result<(), Failure> {
     let mut table = Table::new(
         "CRC-32.",
         &["bytes", "proved ns", "zlib ns", "C byte table ns", "to table", "to zlib", "bar", ""],
     );
-    for (bytes, bar) in [(64, 0.6), (1_024, 2.0)] {
-        let case = Case { job: CRC, bytes, live: 0, words: LARGEST };
-        let medians = medians(&[Program::new(programs.proved), zlib, byte_table], case, rounds)?;
-        let mut row = vec![grouped(bytes)];
-        row.extend(medians.iter().map(|&time| ns(time)));
-        row.push(ratio(medians[0] / medians[2]));
-        row.extend(held_to(medians[0] / medians[1], bar));
+    for case in cases {
+        let [proved, zlib, byte_table] = times[case][..] else { continue };
+        let mut row = vec![grouped(case.bytes), ns(proved), ns(zlib), ns(byte_table)];
+        row.extend([ratio(proved / byte_table), ratio(proved / zlib)]);
+        row.extend(bar(proved / zlib, if case.bytes == 64 { 0.6 } else { 2.0 }));
         table.row(row);
     }
     table.print(out)
 }
 
-fn full_image(pair: &mut Pair, out: &mut impl Write) -> Result<(), Failure> {
+fn print_full_image(cases: &[Case], times: &Times, out: &mut impl Write) -> Result<(), Failure> {
     let mut table = Table::new(
         "A full image of 8,192 words: 64 records of 991 bytes.",
         &["call", "proved ns", "plain Rust ns", "ratio", "bar", ""],
     );
-    for (name, job) in [("recover", RECOVER), ("list", LIST)] {
-        let (proved, plain) = pair.times(job, 991, FULL, LARGEST)?;
-        let mut row = vec![name.to_string(), ns(proved), ns(plain)];
-        row.extend(held_to(proved / plain, 1.5));
+    for case in cases {
+        let mut row = vec![case.call().to_string()];
+        row.extend(pair_cells(case, times));
+        row.extend(bar(times[case][0] / times[case][1], 1.5));
         table.row(row);
     }
     table.print(out)
 }
 
-fn growth(pair: &mut Pair, out: &mut impl Write) -> Result<(), Failure> {
+fn print_scan_growth(cases: &[Case], times: &Times, out: &mut impl Write) -> Result<(), Failure> {
     let mut table = Table::new(
         "Growth of recover and list: images full of 64 records.",
-        &["call", "words", "bytes", "proved ns", "a word", "plain Rust ns", "a word", "ratio"],
+        &[
+            "call",
+            "words",
+            "bytes",
+            "proved ns",
+            "plain Rust ns",
+            "ratio",
+            "proved a word",
+            "plain a word",
+        ],
     );
-    for (name, job) in [("recover", RECOVER), ("list", LIST)] {
-        for words in [1_024, 2_048, 4_096, LARGEST] {
-            // The largest of whole words that leave a word for the terminator.
-            let bytes = 8 * ((words - 24 - 1) / FULL - 3);
-            let (proved, plain) = pair.times(job, bytes, FULL, words)?;
-            let a_word = |time: f64| format!("{:.2}", time / words as f64);
-            table.row(vec![
-                name.to_string(),
-                grouped(words),
-                grouped(bytes),
-                ns(proved),
-                a_word(proved),
-                ns(plain),
-                a_word(plain),
-                ratio(proved / plain),
-            ]);
-        }
+    for case in cases {
+        let mut row = vec![case.call().to_string(), grouped(case.words), grouped(case.bytes)];
+        row.extend(pair_cells(case, times));
+        row.extend(times[case].iter().map(|time| format!("{:.2}", time / case.words as f64)));
+        table.row(row);
     }
-    table.print(out)?;
+    table.print(out)
+}
 
+fn print_append_growth(cases: &[Case], times: &Times, out: &mut impl Write) -> Result<(), Failure> {
     let mut table = Table::new(
         "Growth of append, 64 bytes: with the image, then with the live records.",
         &["words", "live", "proved ns", "plain Rust ns", "ratio"],
     );
-    let over_words = [1_024, 4_096, LARGEST].map(|words| (words, 0));
-    let over_live = [16, 32, 48, 60].map(|live| (LARGEST, live));
-    for (words, live) in over_words.into_iter().chain(over_live) {
-        let (proved, plain) = pair.times(APPEND, 64, live, words)?;
-        table.row(vec![
-            grouped(words),
-            grouped(live),
-            ns(proved),
-            ns(plain),
-            ratio(proved / plain),
-        ]);
+    for case in cases {
+        let mut row = vec![grouped(case.words), grouped(case.live)];
+        row.extend(pair_cells(case, times));
+        table.row(row);
     }
     table.print(out)
 }
@@ -275,14 +304,15 @@ fn pmemlog(path: Option<&Path>, rounds: usize, out: &mut impl Write) -> Result<(
     };
     let by_msync = Program::new(path);
     let by_lines = Program { variables: &[("PMEM_IS_PMEM_FORCE", "1")], ..by_msync };
+    let programs = [by_msync, by_lines];
+    let cases = [64, 1_024]
+        .map(|bytes| (Case { job: APPEND, bytes, live: 0, words: LARGEST }, &programs[..]));
     let mut table = Table::new(
         "libpmemlog's append, a pool in /dev/shm.",
         &["bytes", "with msync ns", "with cache line flushes ns"],
     );
-    for bytes in [64, 1_024] {
-        let case = Case { job: APPEND, bytes, live: 0, words: LARGEST };
-        let medians = medians(&[by_msync, by_lines], case, rounds)?;
-        table.row(vec![grouped(bytes), ns(medians[0]), ns(medians[1])]);
+    for ((case, _), medians) in cases.iter().zip(medians(&cases, rounds)?) {
+        table.row(vec![grouped(case.bytes), ns(medians[0]), ns(medians[1])]);
     }
     table.print(out)
 }
@@ -323,10 +353,10 @@ impl Table {
     }
 }
 
-/// A ratio, the bar it is held to, and whether it is met.
-fn held_to(value: f64, bar: f64) -> [String; 3] {
-    let verdict = if value <= bar { "met" } else { "missed" };
-    [ratio(value), format!("at most {bar:.1}"), verdict.to_string()]
+/// The bar that a ratio is held to, and whether it is met.
+fn bar(value: f64, most: f64) -> [String; 2] {
+    let verdict = if value <= most { "met" } else { "missed" };
+    [format!("at most {most:.1}"), verdict.to_string()]
 }
 
 fn ratio(value: f64) -> String {
