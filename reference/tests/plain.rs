@@ -1,7 +1,7 @@
 //! The log written for speed does the same work as the clear one: answer or refusal, image, op buffer and state after each call.
 
 use reference::calls::{self, Done};
-use reference::layout::{crc32, TABLE_SIZE};
+use reference::layout::{crc32, record_size, TABLE_SIZE};
 use reference::loglist::loglist;
 use reference::plain;
 use reference::refusal::Refusal;
@@ -9,7 +9,7 @@ use reference::replay::Machine;
 use reference::rng::Rng;
 use reference::samples::{full_image, samples};
 use reference::script::{Command, Parsed};
-use reference::state::{Stage, State};
+use reference::state::{Entry, Stage, State};
 use reference::{gen, replay};
 use std::collections::BTreeSet;
 use std::fmt::Debug;
@@ -218,6 +218,30 @@ fn full_tables() {
     assert_eq!(machine.state.head_lsn, 1_281);
     assert!(met.kinds.contains(&("reserve", Err(9))));
     assert!(met.kinds.contains(&("force", Ok(129 / 8))));
+}
+
+/// A state that is sound but for one length, kind or count of records.
+#[test]
+fn barely_unsound_states() {
+    let mut met = Met::default();
+    for (length, kind, more, refusal) in [
+        (1_024, 1, 0, None),
+        (1_025, 1, 0, Some(2)),
+        (1_024, 0, 0, Some(2)),
+        (1_024, 1, 64, Some(2)),
+    ] {
+        let mut machine = Machine::default();
+        machine.run(&Command::Image { words: 400, value: 0 });
+        machine.run(&Command::OpBuffer { words: 400, value: 7 });
+        run_both(&mut machine, &Command::Format, &mut met);
+        machine.state.next_lsn = 2 + more;
+        machine.state.next_position = record_size(length);
+        machine.state.table[1] = Entry { position: 0, length, kind, stage: Stage::Open };
+        met.kinds.clear();
+        run_both(&mut machine, &Command::Complete { lsn: 1 }, &mut met);
+        let answer = refusal.map_or(Ok(0), Err);
+        assert!(met.kinds.contains(&("complete", answer)), "{length} {kind} {more}");
+    }
 }
 
 /// A call that mostly goes well.
