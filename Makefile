@@ -1,7 +1,7 @@
 # list: the records of a sample module. test: the gate. prove: every function and theorem, with no program run. compare, crash: the
 # built programs against the reference for longer, as `make compare SCRIPTS=1000`, `make crash SECONDS=600`. speed: how long
-# loglist takes for a full image, beside one in plain Rust.
-.PHONY: list prove test compare crash speed programs
+# loglist takes for a full image, beside one in plain Rust. bench: how long the calls take beside plain Rust, zlib and libpmemlog.
+.PHONY: list prove test compare crash speed bench bench-c programs
 
 SCRIPTS ?= 1000
 SECONDS ?= 60
@@ -30,3 +30,17 @@ crash: programs
 
 speed: programs
 	$(reference) time target/bin/loglist reference/target/release/plain_loglist
+
+# Each case by turns, as `make bench ROUNDS=101`. Without libpmemlog its line says so.
+ROUNDS ?= 31
+bench: programs bench-c
+	rt check bench
+	cd reference && cargo build --profile plain --offline --quiet --bin plain_bench
+	$(reference) bench target/bin/bench reference/target/plain/plain_bench target/bench/crc target/bench/pmemlog --rounds $(ROUNDS)
+
+bench-c:
+	mkdir -p target/bench
+	gcc -O2 -Wall -Wextra -o target/bench/crc tests/bench/crc.c -lz
+	rm -f target/bench/pmemlog
+	if pkg-config --exists libpmemlog; then \
+	  gcc -O2 -Wall -Wextra -o target/bench/pmemlog tests/bench/pmemlog.c $$(pkg-config --cflags --libs libpmemlog); fi

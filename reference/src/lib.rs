@@ -20,11 +20,15 @@ pub mod ops;
 pub mod refusal;
 pub mod state;
 
+// The same written for speed, to measure against.
+pub mod plain;
+
 // What a power failure does, and what must survive it.
 pub mod abstract_log;
 pub mod device;
 
 // Programs.
+pub mod bench;
 pub mod compare;
 pub mod cover;
 pub mod crash;

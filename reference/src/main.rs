@@ -1,5 +1,6 @@
 //! The command line. `reference` alone says what there is.
 
+use reference::bench::{bench, Failure, Programs};
 use reference::compare::{compare, compare_samples};
 use reference::cover::Coverage;
 use reference::crash::{crash_bench, Program};
@@ -24,6 +25,8 @@ usage: reference loglist                 list the image on standard input
                                          compare two other programs with ours on N seeds
        reference samples LOGLIST         run another loglist on images written word by word
        reference time PROGRAM...         how long each takes to list a full image
+       reference bench PROVED PLAIN C_BENCH [PMEM] [--rounds N]
+                                         how long the calls take, case by case
        reference cover SEED N            count what N scripts reach
        reference crash SECONDS [--program PATH] [--seed S] [--shortcut K]
                                          cut power at random and check what is left
@@ -101,6 +104,29 @@ fn run(args: &[&str]) -> io::Result<ExitCode> {
             let paths: Vec<&Path> = programs.iter().map(Path::new).collect();
             for (program, time) in programs.iter().zip(list_times(&paths, 200)?) {
                 writeln!(stdout, "{:>8.1} us  {program}", time.as_secs_f64() * 1e6)?;
+            }
+        }
+        ["bench", proved, plain, crc, options @ ..] => {
+            let (pmemlog, rounds) = match options {
+                [] => (None, 31),
+                [pmemlog] if !pmemlog.starts_with('-') => (Some(Path::new(pmemlog)), 31),
+                ["--rounds", rounds] => (None, parse(rounds)?),
+                [pmemlog, "--rounds", rounds] => (Some(Path::new(pmemlog)), parse(rounds)?),
+                _ => return Err(invalid(format!("not an option: {}", options.join(" ")))),
+            };
+            if rounds == 0 {
+                return Err(invalid("not a good number: 0".to_string()));
+            }
+            let (proved, plain, crc) = (Path::new(proved), Path::new(plain), Path::new(crc));
+            let programs = Programs { proved, plain, crc, pmemlog };
+            match bench(&programs, rounds, &mut stdout) {
+                Ok(()) => {}
+                Err(Failure::Io(error)) => return Err(error),
+                Err(Failure::Difference(line)) => {
+                    writeln!(stdout, "bench: {line}")?;
+                    stdout.flush()?;
+                    return Ok(ExitCode::FAILURE);
+                }
             }
         }
         ["cover", seed, count] => {

@@ -1,0 +1,386 @@
+//! How long the calls take: the proved programs beside plain Rust, zlib, a byte table in C and libpmemlog, all in one run.
+//!
+//! Each program reads five words (job, bytes, live, count, words) and prints the microseconds of CPU time that its timed part took and
+//! a digest of what it left. The programs of a case take turns, round by round, and have to leave the same; what counts is the median
+//! of each.
+
+use std::collections::BTreeMap;
+use std::fmt;
+use std::io::{self, Write};
+use std::path::Path;
+use std::process::{Command, Stdio};
+
+const APPEND: u64 = 1;
+const CRC: u64 = 2;
+const RECOVER: u64 = 3;
+const LIST: u64 = 4;
+
+/// Words of the largest image.
+const LARGEST: u64 = 8_192;
+/// Records of a full table.
+const FULL: u64 = 64;
+
+/// A run takes at least so many microseconds, and seldom twice as many.
+const RUN_TIME: u64 = 10_000;
+
+/// The programs to time.
+pub struct Programs<'a> {
+    pub proved: &'a Path,
+    pub plain: &'a Path,
+    pub crc: &'a Path,
+    /// It need not be there.
+    pub pmemlog: Option<&'a Path>,
+}
+
+pub enum Failure {
+    Io(io::Error),
+    /// Two programs left different things; the line says which.
+    Difference(String),
+}
+
+impl From<io::Error> for Failure {
+    fn from(error: io::Error) -> Failure {
+        Failure::Io(error)
+    }
+}
+
+/// A program with its arguments, and variables of its environment.
+#[derive(Clone, Copy)]
+struct Program<'a> {
+    path: &'a Path,
+    args: &'a [&'a str],
+    variables: &'a [(&'a str, &'a str)],
+}
+
+impl<'a> Program<'a> {
+    fn new(path: &'a Path) -> Program<'a> {
+        Program { path, args: &[], variables: &[] }
+    }
+
+    /// The microseconds that it took and its digest.
+    fn run(&self, case: Case, count: u64) -> io::Result<(u64, u64)> {
+        let Case { job, bytes, live, words } = case;
+        let input: Vec<u8> =
+            [job, bytes, live, count, words].into_iter().flat_map(u64::to_le_bytes).collect();
+        let name = self.path.display();
+        let mut child = Command::new(self.path)
+            .args(self.args)
+            .envs(self.variables.iter().copied())
+            .stdin(Stdio::piped())
+            .stdout(Stdio::piped())
+            .spawn()
+            .map_err(|error| io::Error::new(error.kind(), format!("{name}: {error}")))?;
+        // A program that ends early breaks the pipe; its output then tells.
+        let _ = child.stdin.take().expect("stdin is piped").write_all(&input);
+        let output = String::from_utf8_lossy(&child.wait_with_output()?.stdout).into_owned();
+        let numbers: Vec<Option<u64>> =
+            output.split_whitespace().map(|number| number.parse().ok()).collect();
+        match numbers[..] {
+            [Some(time), Some(digest)] => Ok((time, digest)),
+            _ => Err(io::Error::other(format!("{name} prints no two numbers for {case}"))),
+        }
+    }
+}
+
+#[derive(Clone, Copy, PartialEq, Eq, PartialOrd, Ord)]
+struct Case {
+    job: u64,
+    bytes: u64,
+    live: u64,
+    words: u64,
+}
+
+impl Case {
+    fn call(&self) -> &'static str {
+        match self.job {
+            APPEND => "append",
+            CRC => "crc",
+            RECOVER => "recover",
+            _ => "list",
+        }
+    }
+}
+
+impl fmt::Display for Case {
+    fn fmt(&self, f: &mut fmt::Formatter) -> fmt::Result {
+        let Case { bytes, live, words, .. } = self;
+        write!(f, "{}, bytes {bytes}, live {live}, words {words}", self.call())
+    }
+}
+
+/// The median nanoseconds for one item, of each program of each case. Every round has all cases in it, so that a while in which the
+/// machine is slow falls on all of them.
+fn medians(cases: &[(Case, &[Program])], rounds: usize) -> Result<Vec<Vec<f64>>, Failure> {
+    let mut counts = Vec::new();
+    for (case, programs) in cases {
+        let mut count = 64;
+        while programs[0].run(*case, count)?.0 < RUN_TIME && count < 1 << 30 {
+            count *= 2;
+        }
+        counts.push(count);
+    }
+    let mut times: Vec<Vec<Vec<u64>>> =
+        cases.iter().map(|(_, programs)| vec![Vec::new(); programs.len()]).collect();
+    for _ in 0..rounds {
+        for (((case, programs), count), times) in cases.iter().zip(&counts).zip(&mut times) {
+            let mut digests = Vec::new();
+            for (program, times) in programs.iter().zip(times) {
+                let (time, digest) = program.run(*case, *count)?;
+                times.push(time);
+                digests.push(digest);
+            }
+            if digests.iter().any(|digest| *digest != digests[0]) {
+                let mut line = format!("digests differ for {case}, count {count}:");
+                for (program, digest) in programs.iter().zip(digests) {
+                    line += &format!(" {digest} by {}", program.path.display());
+                }
+                return Err(Failure::Difference(line));
+            }
+        }
+    }
+    let median = |times: &mut Vec<u64>, count: u64| {
+        times.sort();
+        times[times.len() / 2] as f64 * 1_000.0 / count as f64
+    };
+    let of_case = |(mut times, count): (Vec<Vec<u64>>, u64)| {
+        times.iter_mut().map(|times| median(times, count)).collect()
+    };
+    Ok(times.into_iter().zip(counts).map(of_case).collect())
+}
+
+/// Measures everything and prints the tables. `rounds` is not 0.
+pub fn bench(programs: &Programs, rounds: usize, out: &mut impl Write) -> Result<(), Failure> {
+    let cores = std::thread::available_parallelism()?;
+    writeln!(out, "{cores} cores, {rounds} rounds, the programs by turns")?;
+    writeln!(out, "CPU time, medians")?;
+    out.flush()?;
+
+    let append = |bytes, live, words| Case { job: APPEND, bytes, live, words };
+    let appends: Vec<Case> = [64, 1_024]
+        .into_iter()
+        .flat_map(|bytes| [0, 32, 60].map(|live| append(bytes, live, LARGEST)))
+        .collect();
+    let crcs = [64, 1_024].map(|bytes| Case { job: CRC, bytes, live: 0, words: LARGEST });
+    let full_image =
+        [RECOVER, LIST].map(|job| Case { job, bytes: 991, live: FULL, words: LARGEST });
+    let scan_growth: Vec<Case> = [RECOVER, LIST]
+        .into_iter()
+        .flat_map(|job| {
+            [1_024, 2_048, 4_096, LARGEST].map(|words| {
+                // The most whole words for each record that leave one for the terminator.
+                let bytes = 8 * ((words - 24 - 1) / FULL - 3);
+                Case { job, bytes, live: FULL, words }
+            })
+        })
+        .collect();
+    let append_growth: Vec<Case> = [1_024, 4_096]
+        .map(|words| append(64, 0, words))
+        .into_iter()
+        .chain([0, 16, 32, 48, 60].map(|live| append(64, live, LARGEST)))
+        .collect();
+
+    let proved = Program::new(programs.proved);
+    let pair = [proved, Program::new(programs.plain)];
+    let crc = Program::new(programs.crc);
+    let checks = [proved, Program { args: &["zlib"], ..crc }, Program { args: &["table"], ..crc }];
+    let mut cases: Vec<(Case, &[Program])> = Vec::new();
+    for case in
+        [&appends[..], &crcs, &full_image, &scan_growth, &append_growth].into_iter().flatten()
+    {
+        // Some are in two tables.
+        if !cases.iter().any(|(other, _)| other == case) {
+            cases.push((*case, if case.job == CRC { &checks } else { &pair }));
+        }
+    }
+    let medians = medians(&cases, rounds)?;
+    let times: Times = cases.iter().map(|(case, _)| *case).zip(medians).collect();
+
+    print_appends(&appends, &times, out)?;
+    print_crcs(&crcs, &times, out)?;
+    print_full_image(&full_image, &times, out)?;
+    print_scan_growth(&scan_growth, &times, out)?;
+    print_append_growth(&append_growth, &times, out)?;
+    pmemlog(programs.pmemlog, rounds, out)
+}
+
+/// The medians of each case's programs.
+type Times = BTreeMap<Case, Vec<f64>>;
+
+/// Proved, plain and the ratio of the two.
+fn pair_cells(case: &Case, times: &Times) -> [String; 3] {
+    let (proved, plain) = (times[case][0], times[case][1]);
+    [ns(proved), ns(plain), ratio(proved / plain)]
+}
+
+fn print_appends(cases: &[Case], times: &Times, out: &mut impl Write) -> Result<(), Failure> {
+    let mut table = Table::new(
+        "Append: reserve, copy, complete, force with frequency 8, release of the oldest. Image of 8,192 words.",
+        &["bytes", "live", "proved ns", "plain Rust ns", "ratio", "bar", ""],
+    );
+    for case in cases {
+        let mut row = vec![grouped(case.bytes), grouped(case.live)];
+        row.extend(pair_cells(case, times));
+        row.extend(bar(times[case][0] / times[case][1], 1.6));
+        table.row(row);
+    }
+    table.print(out)
+}
+
+fn print_crcs(cases: &[Case], times: &Times, out: &mut impl Write) -> Result<(), Failure> {
+    let mut table = Table::new(
+        "CRC-32.",
+        &["bytes", "proved ns", "zlib ns", "C byte table ns", "to table", "to zlib", "bar", ""],
+    );
+    for case in cases {
+        let [proved, zlib, byte_table] = times[case][..] else { continue };
+        let mut row = vec![grouped(case.bytes), ns(proved), ns(zlib), ns(byte_table)];
+        row.extend([ratio(proved / byte_table), ratio(proved / zlib)]);
+        row.extend(bar(proved / zlib, if case.bytes == 64 { 0.6 } else { 2.0 }));
+        table.row(row);
+    }
+    table.print(out)
+}
+
+fn print_full_image(cases: &[Case], times: &Times, out: &mut impl Write) -> Result<(), Failure> {
+    let mut table = Table::new(
+        "A full image of 8,192 words: 64 records of 991 bytes.",
+        &["call", "proved ns", "plain Rust ns", "ratio", "bar", ""],
+    );
+    for case in cases {
+        let mut row = vec![case.call().to_string()];
+        row.extend(pair_cells(case, times));
+        row.extend(bar(times[case][0] / times[case][1], 1.5));
+        table.row(row);
+    }
+    table.print(out)
+}
+
+fn print_scan_growth(cases: &[Case], times: &Times, out: &mut impl Write) -> Result<(), Failure> {
+    let mut table = Table::new(
+        "Growth of recover and list: images full of 64 records.",
+        &[
+            "call",
+            "words",
+            "bytes",
+            "proved ns",
+            "plain Rust ns",
+            "ratio",
+            "proved a word",
+            "plain a word",
+        ],
+    );
+    for case in cases {
+        let mut row = vec![case.call().to_string(), grouped(case.words), grouped(case.bytes)];
+        row.extend(pair_cells(case, times));
+        row.extend(times[case].iter().map(|time| format!("{:.2}", time / case.words as f64)));
+        table.row(row);
+    }
+    table.print(out)
+}
+
+fn print_append_growth(cases: &[Case], times: &Times, out: &mut impl Write) -> Result<(), Failure> {
+    let mut table = Table::new(
+        "Growth of append, 64 bytes: with the image, then with the live records.",
+        &["words", "live", "proved ns", "plain Rust ns", "ratio"],
+    );
+    for case in cases {
+        let mut row = vec![grouped(case.words), grouped(case.live)];
+        row.extend(pair_cells(case, times));
+        table.row(row);
+    }
+    table.print(out)
+}
+
+fn pmemlog(path: Option<&Path>, rounds: usize, out: &mut impl Write) -> Result<(), Failure> {
+    let Some(path) = path.filter(|path| path.exists()) else {
+        let why = match path {
+            Some(path) => {
+                format!("{} is not there; it is built where libpmemlog is", path.display())
+            }
+            None => "no program was named for it".to_string(),
+        };
+        writeln!(out, "\nlibpmemlog: skipped, {why}.")?;
+        return Ok(());
+    };
+    let by_msync = Program::new(path);
+    let by_lines = Program { variables: &[("PMEM_IS_PMEM_FORCE", "1")], ..by_msync };
+    let programs = [by_msync, by_lines];
+    let cases = [64, 1_024]
+        .map(|bytes| (Case { job: APPEND, bytes, live: 0, words: LARGEST }, &programs[..]));
+    let mut table = Table::new(
+        "libpmemlog's append, a pool in /dev/shm.",
+        &["bytes", "with msync ns", "with cache line flushes ns"],
+    );
+    for ((case, _), medians) in cases.iter().zip(medians(&cases, rounds)?) {
+        table.row(vec![grouped(case.bytes), ns(medians[0]), ns(medians[1])]);
+    }
+    table.print(out)
+}
+
+// ---------------------------------------------------------------- text
+
+/// A table in Markdown that can be read as it is.
+struct Table {
+    title: String,
+    rows: Vec<Vec<String>>,
+}
+
+impl Table {
+    fn new(title: &str, heading: &[&str]) -> Table {
+        let heading = heading.iter().map(|cell| cell.to_string()).collect();
+        Table { title: title.to_string(), rows: vec![heading] }
+    }
+
+    fn row(&mut self, cells: Vec<String>) {
+        self.rows.push(cells);
+    }
+
+    fn print(&self, out: &mut impl Write) -> Result<(), Failure> {
+        let columns = self.rows[0].len();
+        let width = |i: usize| self.rows.iter().map(|row| row[i].len()).max().unwrap_or(0);
+        let widths: Vec<usize> = (0..columns).map(width).collect();
+        writeln!(out, "\n{}\n", self.title)?;
+        for (i, row) in self.rows.iter().enumerate() {
+            let cells = row.iter().zip(&widths).map(|(cell, width)| format!(" {cell:>width$} |"));
+            writeln!(out, "|{}", cells.collect::<String>())?;
+            if i == 0 {
+                let rule = widths.iter().map(|width| format!("{}:|", "-".repeat(width + 1)));
+                writeln!(out, "|{}", rule.collect::<String>())?;
+            }
+        }
+        out.flush()?;
+        Ok(())
+    }
+}
+
+/// The bar that a ratio is held to, and whether it is met.
+fn bar(value: f64, most: f64) -> [String; 2] {
+    let verdict = if value <= most { "met" } else { "missed" };
+    [format!("at most {most:.1}"), verdict.to_string()]
+}
+
+fn ratio(value: f64) -> String {
+    format!("{value:.2}")
+}
+
+/// Nanoseconds, whole from 1,000 on.
+fn ns(time: f64) -> String {
+    if time < 1_000.0 {
+        format!("{time:.1}")
+    } else {
+        grouped(time.round() as u64)
+    }
+}
+
+/// A number as 8,192.
+fn grouped(number: u64) -> String {
+    let digits = number.to_string();
+    let mut text = String::new();
+    for (i, digit) in digits.chars().enumerate() {
+        if i > 0 && (digits.len() - i).is_multiple_of(3) {
+            text.push(',');
+        }
+        text.push(digit);
+    }
+    text
+}

@@ -1,0 +1,145 @@
+//! Times the calls of the plain log. Standard input: five little-endian words, job, bytes, live, count and words. Standard output: the
+//! microseconds of CPU time that the timed part took and a CRC-32 of what it left. Bad input: nothing.
+//!
+//! Jobs: 1 append, 2 CRC-32, 3 recover, 4 list.
+
+use reference::calls::Done;
+use reference::plain::{self, State};
+use std::hint::black_box;
+use std::io::{self, Read};
+
+extern "C" {
+    fn clock() -> i64;
+}
+
+/// CPU time of this process in microseconds.
+fn cpu_time() -> i64 {
+    // Safe: C's clock takes nothing and only reads the process's time. std has no call for it.
+    unsafe { clock() }
+}
+
+/// The time that some work takes.
+fn time(work: impl FnOnce()) -> i64 {
+    let start = cpu_time();
+    work();
+    cpu_time() - start
+}
+
+struct Log {
+    image: Vec<u64>,
+    op_buffer: Vec<u64>,
+    state: State,
+    payload: Vec<u8>,
+}
+
+impl Log {
+    fn new(words: usize, payload: Vec<u8>) -> Log {
+        let mut image = vec![0; words];
+        let mut op_buffer = vec![0; 8_192];
+        let Done { answer: state, .. } =
+            plain::format(&mut image, &mut op_buffer).expect("a good size and room for the ops");
+        Log { image, op_buffer, state, payload }
+    }
+
+    /// A log of `live` records, all of them durable.
+    fn with_live(words: usize, payload: Vec<u8>, live: u64) -> Log {
+        let mut log = Log::new(words, payload);
+        for _ in 0..live {
+            log.append();
+        }
+        if live > 0 {
+            let Log { image, op_buffer, state, .. } = &mut log;
+            let _ = plain::force(image, op_buffer, state, state.next_lsn - 1, 1);
+        }
+        log
+    }
+
+    /// A refused call leaves the state as it is, and the next one goes on from there.
+    fn append(&mut self) {
+        let Log { image, op_buffer, state, payload } = self;
+        if let Ok(reserved) = plain::reserve(image, op_buffer, state, 1, payload.len() as u64) {
+            let lsn = reserved.answer.lsn;
+            let _ = plain::copy(image, op_buffer, state, lsn, 0, payload);
+            let _ = plain::complete(image, op_buffer, state, lsn);
+            let _ = plain::force(image, op_buffer, state, lsn, 8);
+        }
+    }
+
+    /// Gives the oldest durable records back until no more than `live` are left.
+    fn trim(&mut self, live: u64) {
+        let Log { image, op_buffer, state, .. } = self;
+        while state.next_lsn - state.head_lsn > live && state.head_lsn <= state.committed_lsn {
+            if plain::release(image, op_buffer, state, state.head_lsn).is_err() {
+                break;
+            }
+        }
+    }
+}
+
+fn main() -> io::Result<()> {
+    let mut input = [0; 40];
+    if io::stdin().lock().read_exact(&mut input).is_err() {
+        return Ok(());
+    }
+    let (numbers, _) = input.as_chunks();
+    let [job, bytes, live, count, words] = std::array::from_fn(|i| u64::from_le_bytes(numbers[i]));
+    if (1..=1_024).contains(&bytes) && live <= 64 && (40..=8_192).contains(&words) {
+        if let Some((time, digest)) = run(job, bytes, live, count, words as usize) {
+            println!("{time} {digest}");
+        }
+    }
+    Ok(())
+}
+
+/// The time and the digest of a job, if there is such a job.
+fn run(job: u64, bytes: u64, live: u64, count: u64, words: usize) -> Option<(i64, u64)> {
+    let payload: Vec<u8> = (0..bytes).map(|i| (7 * i + 3) as u8).collect();
+    match job {
+        1 => {
+            let mut log = Log::with_live(words, payload, live);
+            let time = time(|| {
+                for _ in 0..count {
+                    log.append();
+                    log.trim(live);
+                }
+            });
+            Some((time, plain::crc32_of_words(&log.image)))
+        }
+        2 => {
+            let (payload, _) = payload.as_chunks();
+            let mut buffer: Vec<u64> =
+                payload.iter().map(|word| u64::from_le_bytes(*word)).collect();
+            let mut check = 0;
+            let time = time(|| {
+                for _ in 0..count {
+                    check = plain::crc32_of_words(&buffer);
+                    if let Some(first) = buffer.first_mut() {
+                        *first = check;
+                    }
+                }
+            });
+            Some((time, check))
+        }
+        3 => {
+            let Log { mut image, mut op_buffer, .. } = Log::with_live(words, payload, live);
+            let time = time(|| {
+                for _ in 0..count {
+                    let _ = black_box(plain::recover(&mut image, &mut op_buffer));
+                }
+            });
+            Some((time, plain::crc32_of_words(&image)))
+        }
+        4 => {
+            let Log { image, .. } = Log::with_live(words, payload, live);
+            let bytes: Vec<u8> = image.iter().flat_map(|word| word.to_le_bytes()).collect();
+            let mut text = Vec::with_capacity(140_000);
+            let time = time(|| {
+                for _ in 0..count {
+                    plain::list(black_box(&bytes), &mut text);
+                }
+            });
+            Some((time, plain::crc32_of_bytes(&text)))
+        }
+        _ => None,
+    }
+}

@@ -1,0 +1,32 @@
+//! The log once more, as one writes it in plain Rust for speed: the yardstick that the proved calls' times are held against.
+//!
+//! Each call makes the tests of [`crate::calls`] in their order, gives the same answer and leaves the same words, ops and state;
+//! tests/plain.rs holds the two together. It differs in how: the state is changed in place and the ops go straight into the op
+//! buffer once no refusal is left, nothing is allocated, the CRC goes by a byte table, and the ring is stepped through without a
+//! division.
+
+mod calls;
+mod crc;
+mod list;
+mod scan;
+mod state;
+
+pub use calls::{complete, copy, force, format, recover, release, reserve};
+pub use crc::{crc32_of_bytes, crc32_of_words};
+pub use list::list;
+pub use state::{Entry, Stage, State};
+
+/// `count` items of a ring from `start` on: those up to its end, and those that go round.
+fn run<T>(ring: &[T], start: usize, count: usize) -> (&[T], &[T]) {
+    let up_to_end = &ring[start..];
+    match up_to_end.get(..count) {
+        Some(all) => (all, &[]),
+        None => (up_to_end, &ring[..count - up_to_end.len()]),
+    }
+}
+
+/// A position less than one round beyond the end of the ring, brought back into it.
+fn wrap(position: usize, capacity: usize) -> usize {
+    // The difference is huge if it is below zero.
+    position.min(position.wrapping_sub(capacity))
+}

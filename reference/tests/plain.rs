@@ -1,0 +1,324 @@
+//! The log written for speed does the same work as the clear one: answer or refusal, image, op buffer and state after each call.
+
+use reference::calls::{self, Done};
+use reference::layout::{crc32, record_size, TABLE_SIZE};
+use reference::loglist::loglist;
+use reference::plain;
+use reference::refusal::Refusal;
+use reference::replay::Machine;
+use reference::rng::Rng;
+use reference::samples::{full_image, samples};
+use reference::script::{Command, Parsed};
+use reference::state::{Entry, Stage, State};
+use reference::{gen, replay};
+use std::collections::BTreeSet;
+use std::fmt::Debug;
+
+/// The same state as the other log keeps it. Entries hold 16 bits a number, as a script's do.
+fn plain_state(state: &State) -> plain::State {
+    plain::State {
+        capacity: state.capacity,
+        head_position: state.head_position,
+        head_lsn: state.head_lsn,
+        next_position: state.next_position,
+        next_lsn: state.next_lsn,
+        committed_lsn: state.committed_lsn,
+        copy_in_use: state.copy_in_use,
+        epoch: state.epoch,
+        table: state.table.map(|entry| plain::Entry {
+            position: entry.position.try_into().unwrap(),
+            length: entry.length.try_into().unwrap(),
+            kind: entry.kind.try_into().unwrap(),
+            stage: match entry.stage {
+                Stage::Free => plain::Stage::Free,
+                Stage::Open => plain::Stage::Open,
+                Stage::Complete => plain::Stage::Complete,
+                Stage::Committed => plain::Stage::Committed,
+                Stage::Released => plain::Stage::Released,
+            },
+        }),
+    }
+}
+
+/// What was met: a call's name and its count of ops, one for each range of 8, or its refusal.
+#[derive(Default)]
+struct Met {
+    calls: usize,
+    kinds: BTreeSet<(&'static str, Result<usize, u64>)>,
+}
+
+/// Runs a call on both logs. The machine goes on with what the clear one leaves.
+fn run_both(machine: &mut Machine, command: &Command, met: &mut Met) {
+    let mut image = machine.image.clone();
+    let mut ops = machine.op_buffer.clone();
+    let mut state = plain_state(&machine.state);
+    let Machine { image: clear_image, op_buffer: clear_ops, state: clear, .. } = machine;
+
+    // The answer of the two, once they have given the same.
+    fn same<A: Debug + PartialEq>(
+        name: &'static str,
+        clear: Result<Done<A>, Refusal>,
+        fast: Result<Done<A>, Refusal>,
+        met: &mut Met,
+    ) {
+        assert_eq!(clear, fast, "{name}");
+        met.calls += 1;
+        met.kinds.insert((name, clear.map(|done| done.op_count / 8).map_err(Refusal::number)));
+    }
+    // A state that a call has made is compared below.
+    fn adopt<S>(state: &mut S, result: Result<Done<S>, Refusal>) -> Result<Done<()>, Refusal> {
+        result.map(|done| {
+            *state = done.answer;
+            Done { answer: (), op_count: done.op_count }
+        })
+    }
+    match *command {
+        Command::Format => same(
+            "format",
+            adopt(clear, calls::format(clear_image, clear_ops)),
+            adopt(&mut state, plain::format(&mut image, &mut ops)),
+            met,
+        ),
+        Command::Reserve { kind, length } => same(
+            "reserve",
+            calls::reserve(clear_image, clear_ops, clear, kind, length),
+            plain::reserve(&mut image, &mut ops, &mut state, kind, length),
+            met,
+        ),
+        Command::Copy { lsn, offset, ref bytes } => same(
+            "copy",
+            calls::copy(clear_image, clear_ops, clear, lsn, offset, bytes),
+            plain::copy(&mut image, &mut ops, &mut state, lsn, offset, bytes),
+            met,
+        ),
+        Command::Complete { lsn } => same(
+            "complete",
+            calls::complete(clear_image, clear_ops, clear, lsn),
+            plain::complete(&mut image, &mut ops, &mut state, lsn),
+            met,
+        ),
+        Command::Force { lsn, frequency } => same(
+            "force",
+            calls::force(clear_image, clear_ops, clear, lsn, frequency),
+            plain::force(&mut image, &mut ops, &mut state, lsn, frequency),
+            met,
+        ),
+        Command::Release { lsn } => same(
+            "release",
+            calls::release(clear_image, clear_ops, clear, lsn),
+            plain::release(&mut image, &mut ops, &mut state, lsn),
+            met,
+        ),
+        Command::Recover => same(
+            "recover",
+            adopt(clear, calls::recover(clear_image, clear_ops)),
+            adopt(&mut state, plain::recover(&mut image, &mut ops)),
+            met,
+        ),
+        _ => {
+            machine.run(command);
+            return;
+        }
+    }
+    assert!(machine.image == image, "image after {command:?}");
+    assert!(machine.op_buffer == ops, "op buffer after {command:?}");
+    assert_eq!(plain_state(&machine.state), state, "state after {command:?}");
+}
+
+fn same_list(bytes: &[u8]) {
+    let mut text = b"old text".to_vec();
+    plain::list(bytes, &mut text);
+    assert_eq!(String::from_utf8(text).unwrap(), loglist(bytes));
+}
+
+/// Histories that wrap around, full tables, unsound and forged states, all image sizes, damaged superlines and records, last
+/// numbers, noise: the scripts of the generator reach every refusal of every call (tests/scripts.rs).
+#[test]
+fn generated_scripts() {
+    let mut met = Met::default();
+    for seed in 1..=300 {
+        let bytes = gen::script(seed);
+        let mut words =
+            bytes.chunks_exact(8).map(|word| u64::from_le_bytes(word.try_into().unwrap()));
+        let mut machine = Machine::default();
+        while let Parsed::Command(command) = Command::parse(&mut words) {
+            run_both(&mut machine, &command, &mut met);
+        }
+        same_list(&machine.image.iter().flat_map(|word| word.to_le_bytes()).collect::<Vec<u8>>());
+        same_list(&gen::image(seed));
+    }
+    assert!(met.calls > 10_000, "{}", met.calls);
+    let refusals = |name| -> Vec<u64> {
+        let of_call = met.kinds.iter().filter(|(call, _)| *call == name);
+        of_call.filter_map(|(_, answer)| answer.err()).collect()
+    };
+    assert_eq!(refusals("format"), [1, 15]);
+    assert_eq!(refusals("reserve"), [1, 2, 3, 8, 9, 10, 15]);
+    assert_eq!(refusals("copy"), [1, 2, 5, 6, 7, 15]);
+    assert_eq!(refusals("complete"), [1, 2, 5, 6, 15]);
+    assert_eq!(refusals("force"), [1, 2, 3, 5, 11, 15]);
+    assert_eq!(refusals("release"), [1, 2, 5, 6, 15]);
+    assert_eq!(refusals("recover"), [1, 4, 8, 12, 13, 15]);
+}
+
+/// Long histories of one image, many times round the ring, with up to a full table; in some, one number of the state is changed
+/// before a call and put back behind it.
+#[test]
+fn long_histories() {
+    let mut met = Met::default();
+    for (seed, words) in (0..).zip([40, 41, 57, 100, 400, 1_024, 3_000, 8_192]) {
+        let mut rng = Rng::new(seed);
+        let mut machine = Machine::default();
+        machine.run(&Command::Image { words, value: rng.next_u64() });
+        machine.run(&Command::OpBuffer { words: 8_192, value: 7 });
+        run_both(&mut machine, &Command::Format, &mut met);
+        for _ in 0..3_000 {
+            let command = next_call(&mut rng, &machine.state);
+            if rng.chance(1, 4) {
+                let mut other = machine.clone();
+                change_a_number(&mut rng, &mut other);
+                run_both(&mut other, &command, &mut met);
+            }
+            run_both(&mut machine, &command, &mut met);
+        }
+        assert!(machine.state.next_lsn > 100, "{words} words: {}", machine.state.next_lsn);
+    }
+    assert!(met.calls > 20_000, "{}", met.calls);
+    // A head given back, and the longest record.
+    assert!(met.kinds.contains(&("release", Ok(10 / 8))));
+    assert!(met.kinds.contains(&("reserve", Ok(132 / 8))));
+}
+
+/// Tables filled, forced in one stretch, and given back in any order.
+#[test]
+fn full_tables() {
+    let mut met = Met::default();
+    let mut rng = Rng::new(1);
+    let mut machine = Machine::default();
+    machine.run(&Command::Image { words: 700, value: 0 });
+    machine.run(&Command::OpBuffer { words: 8_192, value: 7 });
+    run_both(&mut machine, &Command::Format, &mut met);
+    for round in 0..20 {
+        let mut lsns: Vec<u64> = (64 * round + 1..=64 * round + 64).collect();
+        for &lsn in &lsns {
+            let bytes = rng.bytes(lsn % 50);
+            let length = bytes.len() as u64;
+            run_both(&mut machine, &Command::Reserve { kind: lsn, length }, &mut met);
+            run_both(&mut machine, &Command::Copy { lsn, offset: 0, bytes }, &mut met);
+            run_both(&mut machine, &Command::Complete { lsn }, &mut met);
+        }
+        run_both(&mut machine, &Command::Reserve { kind: 1, length: 1 }, &mut met);
+        run_both(&mut machine, &Command::Force { lsn: lsns[63], frequency: 1 }, &mut met);
+        rng.shuffle(&mut lsns);
+        for lsn in lsns {
+            run_both(&mut machine, &Command::Release { lsn }, &mut met);
+            run_both(&mut machine.clone(), &Command::Recover, &mut met);
+        }
+    }
+    assert_eq!(machine.state.head_lsn, 1_281);
+    assert!(met.kinds.contains(&("reserve", Err(9))));
+    assert!(met.kinds.contains(&("force", Ok(129 / 8))));
+}
+
+/// A state that is sound but for one length, kind or count of records.
+#[test]
+fn barely_unsound_states() {
+    let mut met = Met::default();
+    for (length, kind, more, refusal) in [
+        (1_024, 1, 0, None),
+        (1_025, 1, 0, Some(2)),
+        (1_024, 0, 0, Some(2)),
+        (1_024, 1, 64, Some(2)),
+    ] {
+        let mut machine = Machine::default();
+        machine.run(&Command::Image { words: 400, value: 0 });
+        machine.run(&Command::OpBuffer { words: 400, value: 7 });
+        run_both(&mut machine, &Command::Format, &mut met);
+        machine.state.next_lsn = 2 + more;
+        machine.state.next_position = record_size(length);
+        machine.state.table[1] = Entry { position: 0, length, kind, stage: Stage::Open };
+        met.kinds.clear();
+        run_both(&mut machine, &Command::Complete { lsn: 1 }, &mut met);
+        let answer = refusal.map_or(Ok(0), Err);
+        assert!(met.kinds.contains(&("complete", answer)), "{length} {kind} {more}");
+    }
+}
+
+/// A call that mostly goes well.
+fn next_call(rng: &mut Rng, state: &State) -> Command {
+    let State { capacity, head_lsn, next_lsn, committed_lsn, .. } = *state;
+    let lsn = rng.between(head_lsn - 1, next_lsn);
+    let first_open = state.live().find(|&lsn| state.entry(lsn).stage == Stage::Open);
+    let open = first_open.unwrap_or(lsn);
+    match rng.below(32) {
+        0..8 => {
+            let most = rng.pick(&[8, 40, 1_024.min(4 * capacity)]);
+            Command::Reserve { kind: rng.between(0, 65_536), length: rng.between(0, most + 1) }
+        }
+        8..14 => {
+            let length = state.entry(open).length;
+            let offset = rng.between(0, length);
+            let beyond = u64::from(rng.chance(1, 9));
+            let count = rng.between(0, length - offset + beyond);
+            let lsn = if rng.chance(1, 9) { lsn } else { open };
+            Command::Copy { lsn, offset, bytes: rng.bytes(count) }
+        }
+        14..21 => Command::Complete { lsn: if rng.chance(1, 9) { lsn } else { open } },
+        21..23 => Command::Force { lsn, frequency: rng.below(4) },
+        23..25 => Command::Force { lsn: first_open.unwrap_or(next_lsn) - 1, frequency: 1 },
+        25..28 => Command::Release { lsn: rng.between(head_lsn, committed_lsn.max(head_lsn)) },
+        28..31 => Command::Release { lsn: head_lsn },
+        _ => Command::Recover,
+    }
+}
+
+fn change_a_number(rng: &mut Rng, machine: &mut Machine) {
+    let index = rng.below(TABLE_SIZE as u64) as usize;
+    let entry = &mut machine.state.table[index];
+    match rng.below(6) {
+        0 => {
+            let field = rng.below(8);
+            let old = replay::fields(&machine.state)[field as usize];
+            let near = old.wrapping_add(rng.between(0, 2)).wrapping_sub(1);
+            let small = rng.below(9_000);
+            let value = rng.pick(&[near, small, 0, 1, 1 << 32, 1 << 62, u64::MAX]);
+            machine.run(&Command::Field { field, value });
+        }
+        1 => entry.position = rng.pick(&[0, 1, 65_535, entry.position ^ 1]),
+        2 => entry.length = rng.pick(&[0, 1, 1_024, 1_025, 65_535, entry.length ^ 1]),
+        3 => entry.kind = rng.pick(&[0, 1, 65_535]),
+        4 => {
+            let stages =
+                [Stage::Free, Stage::Open, Stage::Complete, Stage::Committed, Stage::Released];
+            entry.stage = rng.pick(&stages);
+        }
+        _ => machine.image.truncate(machine.image.len() - 1),
+    }
+}
+
+#[test]
+fn listings() {
+    for sample in samples() {
+        same_list(&sample.bytes);
+    }
+    same_list(&full_image());
+}
+
+#[test]
+fn checks() {
+    let mut rng = Rng::new(5);
+    assert_eq!(plain::crc32_of_bytes(b"123456789"), 0xCBF4_3926);
+    for count in 0..100 {
+        let bytes = rng.bytes(count);
+        assert_eq!(plain::crc32_of_bytes(&bytes), u64::from(crc32(bytes)));
+        let words: Vec<u64> = (0..count).map(|_| rng.next_u64()).collect();
+        let bytes = words.iter().flat_map(|word| word.to_le_bytes());
+        assert_eq!(plain::crc32_of_words(&words), u64::from(crc32(bytes)));
+    }
+}
+
+#[test]
+fn sizes() {
+    assert_eq!(size_of::<plain::Entry>(), 8);
+    assert_eq!(size_of::<plain::State>(), 8 * 8 + 64 * 8);
+}
