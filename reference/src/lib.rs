@@ -28,6 +28,7 @@ pub mod device;
 pub mod compare;
 pub mod cover;
 pub mod crash;
+pub mod demo;
 pub mod gen;
 pub mod loglist;
 pub mod replay;
