@@ -1,8 +1,7 @@
 // The program demo: the drive log in a minute, and an example of how to call it. A drive program writes records by the
 // calls of crate drivelog, a driver carries their ops out on a memory module, power fails in the middle of a force, and
 // the log is recovered from what the module holds. `reference demo` tells the same story; the file stdout is its text.
-// The contracts say only how long the arrays are.
-mod driver;
+// The contracts say only what keeps indexes inside their arrays.
 mod say;
 
 use drivelog::Answer;
@@ -11,12 +10,17 @@ use drivelog::Found;
 use drivelog::Opened;
 use drivelog::State;
 use drivelog::Step;
-use driver::OPS_WORDS;
-use driver::WORDS;
-use driver::carry_out;
 ghost use mathlib.Core.Path.{_≡_};
 ghost use Prim.Native.Nat.{_≤_};
 ghost use lib.ListN.{length};
+
+// The words of the module.
+const WORDS: usize = 64;
+
+// The ops for which the op buffer has room, and its words.
+const MAX_OPS: usize = 32;
+
+const OPS_WORDS: usize = 3 * MAX_OPS;
 
 // The LSNs up to which the two forces go, and the frequency with which any LSN may be forced.
 const FIRST_FORCE: u64 = 3;
@@ -24,6 +28,9 @@ const FIRST_FORCE: u64 = 3;
 const SECOND_FORCE: u64 = 6;
 
 const EVERY_LSN: u64 = 1;
+
+// The most bytes of data that a record of this story has.
+const MAX_DATA: usize = 16;
 
 // Power fails after so many ops of the second force.
 const CUT: usize = 5;
@@ -44,6 +51,83 @@ fn new_ops() -> [u64; OPS_WORDS]
 {
     [0; OPS_WORDS]
 }
+
+// The driver carries ops out on the memory module, which has two values for each word: the flushed one, which stays, and
+// the newest one stored, which a power failure may take.
+
+// A store: the word has a new value, which is not flushed.
+fn store(stored: &mut [u64; WORDS], word: u64, value: u64) {
+    if word < WORDS as u64 {
+        stored[word as usize] = value;
+    }
+}
+
+// A flush: each of its words keeps its newest value.
+fn flush(flushed: &mut [u64; WORDS], stored: &[u64; WORDS], first: u64, count: u64) {
+    let mut i: usize = 0;
+    while i < WORDS {
+        let word = i as u64;
+        if first <= word {
+            if word - first < count {
+                flushed[i] = stored[i];
+            }
+        }
+        i += 1;
+    }
+}
+
+// One op of the op buffer: a store is (1, word, value), a flush (2, first word, count).
+fn carry_one(
+    tag: u64,
+    word: u64,
+    value: u64,
+    flushed: &mut [u64; WORDS],
+    stored: &mut [u64; WORDS],
+) {
+    if tag == 1 {
+        store(stored, word, value);
+    } else {
+        flush(flushed, stored, word, value);
+    }
+}
+
+fn least(a: usize, b: usize) -> usize
+    ensures { λ r. ⌜ (r ≤ a) × (r ≤ b) ⌝ }
+{
+    if a < b { a } else { b }
+}
+
+// Carries the first ops of the op buffer out, in turn.
+fn carry_out(
+    ops: &[u64; OPS_WORDS],
+    count: usize,
+    flushed: &mut [u64; WORDS],
+    stored: &mut [u64; WORDS],
+) {
+    let end = least(count, MAX_OPS);
+    let mut k: usize = 0;
+    while k < end {
+        let i = 3 * k;
+        carry_one(ops[i], ops[i + 1], ops[i + 2], flushed, stored);
+        k += 1;
+    }
+}
+
+// Power fails: each word falls back to its flushed value, but for one, which keeps what was stored there. The memory may
+// keep or lose each store that is not flushed.
+fn lose_stores(flushed: &mut [u64; WORDS], stored: &mut [u64; WORDS], kept: usize) {
+    let mut i: usize = 0;
+    while i < WORDS {
+        if i == kept {
+            flushed[i] = stored[i];
+        } else {
+            stored[i] = flushed[i];
+        }
+        i += 1;
+    }
+}
+
+// The drive program makes the calls. The driver carries out the ops of each before the next.
 
 // Formats the image. Answers the state of the empty log.
 fn format(
@@ -108,9 +192,7 @@ fn write_durable(
     flushed: &mut [u64; WORDS],
     stored: &mut [u64; WORDS],
 ) -> State {
-    say::text(
-        b"\nThree records are written: reserve, copy and complete for each. Then one force.\n",
-    );
+    say::writing();
     let one = write_record(state, 1, b"\x41\x20", image, ops, flushed, stored);
     let two = write_record(one, 2, b"\x08\x70", image, ops, flushed, stored);
     let part = b"\x62\x05\x20\x41\x77\x33\x98\x12\x04";
@@ -132,15 +214,15 @@ fn write_more(
     flushed: &mut [u64; WORDS],
     stored: &mut [u64; WORDS],
 ) -> State {
-    say::text(b"\nThree more are complete, and not forced yet.\n");
+    say::writing_more();
     let four = write_record(state, 1, b"\x41\x44", image, ops, flushed, stored);
     let five = write_record(four, 2, b"\x09\x12", image, ops, flushed, stored);
     write_record(five, 1, b"\x41\x68", image, ops, flushed, stored)
 }
 
-// Prints the ops of the op buffer from one on, up to another.
+// Prints ops of the op buffer, each with a remark.
 fn say_ops(ops: &[u64; OPS_WORDS], from: usize, to: usize, remark: &[u8]) {
-    let end = driver::within(to);
+    let end = least(to, MAX_OPS);
     let mut k = from;
     while k < end {
         let i = 3 * k;
@@ -158,18 +240,16 @@ fn force_cut(
     stored: &mut [u64; WORDS],
 ) {
     let forced = drivelog::force(state, image, ops, SECOND_FORCE, EVERY_LSN);
-    carry_out(ops, CUT, flushed, stored);
+    let cut = least(CUT, forced.ops);
+    carry_out(ops, cut, flushed, stored);
     let answer = forced.answer;
     say::numbered(b"\nforce up to LSN ", SECOND_FORCE);
     say::text(b": ");
     say::outcome(answer, forced.ops);
-    say::text(
-        b"The answer counts once the driver has carried all these ops out: flush the records, set the\n",
-    );
-    say::text(b"mark in the first word of each, flush the marks. It does not get there:\n");
-    say_ops(ops, 0, CUT, b"");
+    say::cutting();
+    say_ops(ops, 0, cut, b"");
     say::text(b"  power fails here\n");
-    say_ops(ops, CUT, forced.ops, b" (not carried out)");
+    say_ops(ops, cut, forced.ops, b" (not carried out)");
 }
 
 // Prints each word that is stored and not flushed, and what the power failure makes of it.
@@ -185,11 +265,9 @@ fn say_unflushed(flushed: &[u64; WORDS], stored: &[u64; WORDS]) {
 
 // Power fails. The state is lost, and each word that is not flushed holds its old value or its new one.
 fn lose_power(flushed: &mut [u64; WORDS], stored: &mut [u64; WORDS]) {
-    say::text(
-        b"\nA word that is stored and not flushed may hold its old or its new value, each for itself:\n",
-    );
+    say::failing();
     say_unflushed(flushed, stored);
-    driver::lose_power(flushed, stored, KEPT_WORD);
+    lose_stores(flushed, stored, KEPT_WORD);
 }
 
 // Recovers the log from an image of what the module holds.
@@ -202,23 +280,26 @@ fn recover(
     let recovered = drivelog::recover(image, ops);
     carry_out(ops, recovered.ops, flushed, stored);
     let answer = recovered.answer;
-    say::text(b"\nThe drive starts again, with no state but what the module holds.\nrecover: ");
+    say::recovering();
     say::outcome(answer, recovered.ops);
     recovered.state
 }
 
 // Whether two images have the same data for a record.
 fn same_data(a: &[u64; WORDS], b: &[u64; WORDS], found: Found) -> bool {
-    let mut x = [0u8; 16];
-    let mut y = [0u8; 16];
+    let mut x = [0u8; MAX_DATA];
+    let mut y = [0u8; MAX_DATA];
+    if (MAX_DATA as u64) < found.length {
+        return false;
+    }
     drivelog::fetch(a, found.pos, found.length, &mut x);
     drivelog::fetch(b, found.pos, found.length, &mut y);
     same_bytes(&x, &y)
 }
 
-fn same_bytes(x: &[u8; 16], y: &[u8; 16]) -> bool {
+fn same_bytes(x: &[u8; MAX_DATA], y: &[u8; MAX_DATA]) -> bool {
     let mut i: usize = 0;
-    while i < 16 {
+    while i < MAX_DATA {
         if x[i] != y[i] {
             return false;
         }

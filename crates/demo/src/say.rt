@@ -1,6 +1,6 @@
 // What demo prints: answers, records, ops and words in plain words.
 // A program's output is beyond any contract, so these functions have none.
-use crate::driver::WORDS;
+use crate::WORDS;
 use drivelog::Answer;
 use libc::STDOUT_FILENO;
 use listing::LISTING_ROOM;
@@ -42,6 +42,32 @@ pub fn area(ring: u64, words: u64) {
     numbered(b"Of the module's ", words);
     numbered(b" words, ", ring);
     text(b" are the ring of records; the others say where the log begins.\n");
+}
+
+// Writes what each part of the story is about.
+pub fn writing() {
+    text(b"\nThree records are written: reserve, copy and complete for each. Then one force.\n");
+}
+
+pub fn writing_more() {
+    text(b"\nThree more are complete, and not forced yet.\n");
+}
+
+pub fn cutting() {
+    text(
+        b"The answer counts once the driver has carried all these ops out: flush the records, set the\n",
+    );
+    text(b"mark in the first word of each, flush the marks. It does not get there:\n");
+}
+
+pub fn failing() {
+    text(
+        b"\nA word that is stored and not flushed may hold its old or its new value, each for itself:\n",
+    );
+}
+
+pub fn recovering() {
+    text(b"\nThe drive starts again, with no state but what the module holds.\nrecover: ");
 }
 
 // Writes the answer of a writing call.
@@ -160,7 +186,7 @@ pub fn listing(image: &[u64; WORDS]) {
     text(&room[..end]);
 }
 
-// Writes what a recovery found. The ring begins at word 24.
+// Writes what a recovery found. Position 0 of the ring is word 24, and no ring has more than 8,168 positions.
 pub fn recovered(count: u64, next_lsn: u64, next_pos: u64, kept_word: u64) {
     numbered(b"It finds ", count);
     numbered(

@@ -11,8 +11,8 @@ Inv-loop ops from to remark end k₀ k = end ≤ 32
 abbrev μ-loop : tie.MeasureT-loop
 μ-loop ops from to remark end k₀ k = end - k
 
-within-requires : tie.Need-within-requires Inv-loop μ-loop
-within-requires c κs = search needs
+least-requires : tie.Need-least-requires Inv-loop μ-loop
+least-requires c κs = search needs
 
 loop-holds : tie.Need-loop-holds Inv-loop μ-loop
 loop-holds c = search needs
@@ -65,7 +65,7 @@ say-ops-spec =
     (tie.spec
     Inv-loop
     μ-loop
-    within-requires
+    least-requires
     loop-holds
     mul-i
     mul-op

@@ -1,15 +1,15 @@
--- `demo::driver::flush` is safe and ends. The measure is the words left.
+-- `demo::lose_stores` is safe and ends. The measure is the words left.
 -- Assumes nothing.
 use borrow.Author.Needs.{needs}
 use Prim.Native.Nat.{_-_, _≤_}
-use Rattle.demo.proofs.driver.flush.Statement.{statement}
-use Rattle.demo.proofs.driver.flush.Tie as tie
+use Rattle.demo.proofs.lose_stores.Statement.{statement}
+use Rattle.demo.proofs.lose_stores.Tie as tie
 
 abbrev Inv-loop : tie.InvT-loop
-Inv-loop flushed₀ stored first count i₀ flushed i = i ≤ 64
+Inv-loop flushed₀ stored₀ kept i₀ flushed stored i = i ≤ 64
 
 abbrev μ-loop : tie.MeasureT-loop
-μ-loop flushed₀ stored first count i₀ flushed i = 64 - i
+μ-loop flushed₀ stored₀ kept i₀ flushed stored i = 64 - i
 
 loop-holds : tie.Need-loop-holds Inv-loop μ-loop
 loop-holds c = search needs
@@ -26,6 +26,18 @@ mul-flushed-2 c = search needs
 element-write-flushed : tie.Need-element-write-flushed Inv-loop μ-loop
 element-write-flushed c = search needs
 
+mul-stored : tie.Need-mul-stored Inv-loop μ-loop
+mul-stored c = search needs
+
+element-copy-out-stored : tie.Need-element-copy-out-stored Inv-loop μ-loop
+element-copy-out-stored c = search needs
+
+mul-stored-2 : tie.Need-mul-stored-2 Inv-loop μ-loop
+mul-stored-2 c = search needs
+
+element-write-stored : tie.Need-element-write-stored Inv-loop μ-loop
+element-write-stored c = search needs
+
 add-i : tie.Need-add-i Inv-loop μ-loop
 add-i c = search needs
 
@@ -38,8 +50,8 @@ loop-again c = search needs
 returns : tie.Need-returns Inv-loop μ-loop
 returns c = search needs
 
-pub flush-spec : {M : Type 1} → statement M
-flush-spec =
+pub lose-stores-spec : {M : Type 1} → statement M
+lose-stores-spec =
     tie.close
     (tie.spec
     Inv-loop
@@ -49,6 +61,10 @@ flush-spec =
     element-copy-out-flushed
     mul-flushed-2
     element-write-flushed
+    mul-stored
+    element-copy-out-stored
+    mul-stored-2
+    element-write-stored
     add-i
     loop-less
     loop-again

@@ -1,9 +1,9 @@
--- `demo::driver::carry_out` is safe and ends: no more ops are carried out than the op buffer has room for.
+-- `demo::carry_out` is safe and ends: no more ops are carried out than the op buffer has room for.
 -- Assumes nothing.
 use borrow.Author.Needs.{needs}
 use Prim.Native.Nat.{_-_, _≤_}
-use Rattle.demo.proofs.driver.carry_out.Statement.{statement}
-use Rattle.demo.proofs.driver.carry_out.Tie as tie
+use Rattle.demo.proofs.carry_out.Statement.{statement}
+use Rattle.demo.proofs.carry_out.Tie as tie
 
 abbrev Inv-loop : tie.InvT-loop
 Inv-loop ops count flushed₀ stored₀ end k₀ flushed stored k = (k ≤ end) × (end ≤ 32)
@@ -11,8 +11,8 @@ Inv-loop ops count flushed₀ stored₀ end k₀ flushed stored k = (k ≤ end) 
 abbrev μ-loop : tie.MeasureT-loop
 μ-loop ops count flushed₀ stored₀ end k₀ flushed stored k = end - k
 
-within-requires : tie.Need-within-requires Inv-loop μ-loop
-within-requires c κs = search needs
+least-requires : tie.Need-least-requires Inv-loop μ-loop
+least-requires c κs = search needs
 
 loop-holds : tie.Need-loop-holds Inv-loop μ-loop
 loop-holds c = search needs
@@ -65,7 +65,7 @@ carry-out-spec =
     (tie.spec
     Inv-loop
     μ-loop
-    within-requires
+    least-requires
     loop-holds
     mul-i
     mul-carry-one
