@@ -32,6 +32,7 @@ pub mod bench;
 pub mod compare;
 pub mod cover;
 pub mod crash;
+pub mod demo;
 pub mod gen;
 pub mod loglist;
 pub mod replay;

@@ -4,6 +4,7 @@ use reference::bench::{bench, Failure, Programs};
 use reference::compare::{compare, compare_samples};
 use reference::cover::Coverage;
 use reference::crash::{crash_bench, Program};
+use reference::demo::demo;
 use reference::gen;
 use reference::loglist::{loglist, read_image_bytes};
 use reference::replay::replay;
@@ -16,7 +17,8 @@ use std::process::ExitCode;
 use std::time::Duration;
 
 const USAGE: &str = "\
-usage: reference loglist                 list the image on standard input
+usage: reference demo                    tell the story that the program demo tells
+       reference loglist                 list the image on standard input
        reference replay [--shortcut K]   run the script on standard input
        reference gen SEED                write one random script to standard output
        reference gen SEED N DIR          write N scripts as DIR/script-<seed>.bin
@@ -49,6 +51,10 @@ fn main() -> ExitCode {
 fn run(args: &[&str]) -> io::Result<ExitCode> {
     let mut stdout = BufWriter::with_capacity(1 << 16, io::stdout().lock());
     match args {
+        ["demo"] => match demo() {
+            Ok(told) => stdout.write_all(told.text.as_bytes())?,
+            Err(refusal) => return Err(invalid(format!("a call is refused: {refusal:?}"))),
+        },
         ["loglist"] => {
             let bytes = read_image_bytes(io::stdin().lock())?;
             stdout.write_all(loglist(&bytes).as_bytes())?;

@@ -1,0 +1,396 @@
+// The program demo: the drive log in a minute, and an example of how to call it. A drive program writes records by the
+// calls of crate drivelog, a driver carries their ops out on a memory module, power fails in the middle of a force, and
+// the log is recovered from what the module holds. `reference demo` tells the same story; the file stdout is its text.
+// The contracts say only what keeps indexes inside their arrays.
+mod say;
+
+use drivelog::Answer;
+use drivelog::Cursor;
+use drivelog::Found;
+use drivelog::Opened;
+use drivelog::State;
+use drivelog::Step;
+ghost use mathlib.Core.Path.{_≡_};
+ghost use Prim.Native.Nat.{_≤_};
+ghost use lib.ListN.{length};
+
+// The words of the module.
+const WORDS: usize = 64;
+
+// The ops for which the op buffer has room, and its words.
+const MAX_OPS: usize = 32;
+
+const OPS_WORDS: usize = 3 * MAX_OPS;
+
+// The LSNs up to which the two forces go, and the frequency with which any LSN may be forced.
+const FIRST_FORCE: u64 = 3;
+
+const SECOND_FORCE: u64 = 6;
+
+const EVERY_LSN: u64 = 1;
+
+// The most bytes of data that a record of this story has.
+const MAX_DATA: usize = 16;
+
+// Power fails after so many ops of the second force.
+const CUT: usize = 5;
+
+// The word whose store the memory keeps although it is not flushed.
+const KEPT_WORD: usize = 45;
+
+// The words of a new memory module. The `ensures` gives only the length, which lending the array needs.
+fn new_words() -> [u64; WORDS]
+    ensures { λ r. ⌜ 64 ≡ length r ⌝ }
+{
+    [0; WORDS]
+}
+
+// The words of an op buffer.
+fn new_ops() -> [u64; OPS_WORDS]
+    ensures { λ r. ⌜ 96 ≡ length r ⌝ }
+{
+    [0; OPS_WORDS]
+}
+
+// The driver carries ops out on the memory module, which has two values for each word: the flushed one, which stays, and
+// the newest one stored, which a power failure may take.
+
+// A store: the word has a new value, which is not flushed.
+fn store(stored: &mut [u64; WORDS], word: u64, value: u64) {
+    if word < WORDS as u64 {
+        stored[word as usize] = value;
+    }
+}
+
+// A flush: each of its words keeps its newest value.
+fn flush(flushed: &mut [u64; WORDS], stored: &[u64; WORDS], first: u64, count: u64) {
+    let mut i: usize = 0;
+    while i < WORDS {
+        let word = i as u64;
+        if first <= word {
+            if word - first < count {
+                flushed[i] = stored[i];
+            }
+        }
+        i += 1;
+    }
+}
+
+// One op of the op buffer: a store is (1, word, value), a flush (2, first word, count).
+fn carry_one(
+    tag: u64,
+    word: u64,
+    value: u64,
+    flushed: &mut [u64; WORDS],
+    stored: &mut [u64; WORDS],
+) {
+    if tag == 1 {
+        store(stored, word, value);
+    } else {
+        flush(flushed, stored, word, value);
+    }
+}
+
+fn least(a: usize, b: usize) -> usize
+    ensures { λ r. ⌜ (r ≤ a) × (r ≤ b) ⌝ }
+{
+    if a < b { a } else { b }
+}
+
+// Carries the first ops of the op buffer out, in turn.
+fn carry_out(
+    ops: &[u64; OPS_WORDS],
+    count: usize,
+    flushed: &mut [u64; WORDS],
+    stored: &mut [u64; WORDS],
+) {
+    let end = least(count, MAX_OPS);
+    let mut k: usize = 0;
+    while k < end {
+        let i = 3 * k;
+        carry_one(ops[i], ops[i + 1], ops[i + 2], flushed, stored);
+        k += 1;
+    }
+}
+
+// Power fails: each word falls back to its flushed value, but for one, which keeps what was stored there. The memory may
+// keep or lose each store that is not flushed.
+fn lose_stores(flushed: &mut [u64; WORDS], stored: &mut [u64; WORDS], kept: usize) {
+    let mut i: usize = 0;
+    while i < WORDS {
+        if i == kept {
+            flushed[i] = stored[i];
+        } else {
+            stored[i] = flushed[i];
+        }
+        i += 1;
+    }
+}
+
+// The drive program makes the calls. The driver carries out the ops of each before the next.
+
+// Formats the image. Answers the state of the empty log.
+fn format(
+    image: &mut [u64; WORDS],
+    ops: &mut [u64; OPS_WORDS],
+    flushed: &mut [u64; WORDS],
+    stored: &mut [u64; WORDS],
+) -> State {
+    let formatted = drivelog::format(image, ops);
+    carry_out(ops, formatted.ops, flushed, stored);
+    let answer = formatted.answer;
+    let state = formatted.state;
+    say::text(b"format: ");
+    say::outcome(answer, formatted.ops);
+    say::area(state.area, WORDS as u64);
+    state
+}
+
+// The LSN that reserve answered; 0, which is no LSN, where it was refused.
+fn lsn_of(answer: Answer) -> u64 {
+    match answer {
+        Answer::Done => 0,
+        Answer::Reserved(lsn, _) => lsn,
+        Answer::Durable => 0,
+        Answer::Deferred => 0,
+        Answer::Refused(_) => 0,
+    }
+}
+
+// Writes a record: room for it, its data, its check. Answers the state after it.
+fn write_record(
+    state: State,
+    kind: u64,
+    data: &[u8],
+    image: &mut [u64; WORDS],
+    ops: &mut [u64; OPS_WORDS],
+    flushed: &mut [u64; WORDS],
+    stored: &mut [u64; WORDS],
+) -> State {
+    let reserved = drivelog::reserve(state, image, ops, kind, data.len() as u64);
+    carry_out(ops, reserved.ops, flushed, stored);
+    let reserve_answer = reserved.answer;
+    let lsn = lsn_of(reserve_answer);
+    let open = reserved.state;
+
+    let copied = drivelog::copy(open, image, ops, lsn, 0, data);
+    carry_out(ops, copied.ops, flushed, stored);
+    let filled = copied.state;
+
+    let completed = drivelog::complete(filled, image, ops, lsn);
+    carry_out(ops, completed.ops, flushed, stored);
+    let answer = completed.answer;
+    say::record(lsn, kind, data, answer);
+    completed.state
+}
+
+// Three records, and a force that makes them durable.
+fn write_durable(
+    state: State,
+    image: &mut [u64; WORDS],
+    ops: &mut [u64; OPS_WORDS],
+    flushed: &mut [u64; WORDS],
+    stored: &mut [u64; WORDS],
+) -> State {
+    say::writing();
+    let one = write_record(state, 1, b"\x41\x20", image, ops, flushed, stored);
+    let two = write_record(one, 2, b"\x08\x70", image, ops, flushed, stored);
+    let part = b"\x62\x05\x20\x41\x77\x33\x98\x12\x04";
+    let three = write_record(two, 3, part, image, ops, flushed, stored);
+    let forced = drivelog::force(three, image, ops, FIRST_FORCE, EVERY_LSN);
+    carry_out(ops, forced.ops, flushed, stored);
+    let answer = forced.answer;
+    say::numbered(b"force up to LSN ", FIRST_FORCE);
+    say::text(b": ");
+    say::outcome(answer, forced.ops);
+    forced.state
+}
+
+// Three records that are complete, with no force.
+fn write_more(
+    state: State,
+    image: &mut [u64; WORDS],
+    ops: &mut [u64; OPS_WORDS],
+    flushed: &mut [u64; WORDS],
+    stored: &mut [u64; WORDS],
+) -> State {
+    say::writing_more();
+    let four = write_record(state, 1, b"\x41\x44", image, ops, flushed, stored);
+    let five = write_record(four, 2, b"\x09\x12", image, ops, flushed, stored);
+    write_record(five, 1, b"\x41\x68", image, ops, flushed, stored)
+}
+
+// Prints ops of the op buffer, each with a remark.
+fn say_ops(ops: &[u64; OPS_WORDS], from: usize, to: usize, remark: &[u8]) {
+    let end = least(to, MAX_OPS);
+    let mut k = from;
+    while k < end {
+        let i = 3 * k;
+        say::op(ops[i], ops[i + 1], ops[i + 2], remark);
+        k += 1;
+    }
+}
+
+// A force whose ops the driver does not get to the end of.
+fn force_cut(
+    state: State,
+    image: &mut [u64; WORDS],
+    ops: &mut [u64; OPS_WORDS],
+    flushed: &mut [u64; WORDS],
+    stored: &mut [u64; WORDS],
+) {
+    let forced = drivelog::force(state, image, ops, SECOND_FORCE, EVERY_LSN);
+    let cut = least(CUT, forced.ops);
+    carry_out(ops, cut, flushed, stored);
+    let answer = forced.answer;
+    say::numbered(b"\nforce up to LSN ", SECOND_FORCE);
+    say::text(b": ");
+    say::outcome(answer, forced.ops);
+    say::cutting();
+    say_ops(ops, 0, cut, b"");
+    say::text(b"  power fails here\n");
+    say_ops(ops, cut, forced.ops, b" (not carried out)");
+}
+
+// Prints each word that is stored and not flushed, and what the power failure makes of it.
+fn say_unflushed(flushed: &[u64; WORDS], stored: &[u64; WORDS]) {
+    let mut i: usize = 0;
+    while i < WORDS {
+        if flushed[i] != stored[i] {
+            say::unflushed(i as u64, flushed[i], stored[i], i == KEPT_WORD);
+        }
+        i += 1;
+    }
+}
+
+// Power fails. The state is lost, and each word that is not flushed holds its old value or its new one.
+fn lose_power(flushed: &mut [u64; WORDS], stored: &mut [u64; WORDS]) {
+    say::failing();
+    say_unflushed(flushed, stored);
+    lose_stores(flushed, stored, KEPT_WORD);
+}
+
+// Recovers the log from an image of what the module holds.
+fn recover(
+    image: &mut [u64; WORDS],
+    ops: &mut [u64; OPS_WORDS],
+    flushed: &mut [u64; WORDS],
+    stored: &mut [u64; WORDS],
+) -> State {
+    let recovered = drivelog::recover(image, ops);
+    carry_out(ops, recovered.ops, flushed, stored);
+    let answer = recovered.answer;
+    say::recovering();
+    say::outcome(answer, recovered.ops);
+    recovered.state
+}
+
+// Whether two images have the same data for a record.
+fn same_data(a: &[u64; WORDS], b: &[u64; WORDS], found: Found) -> bool {
+    let mut x = [0u8; MAX_DATA];
+    let mut y = [0u8; MAX_DATA];
+    if (MAX_DATA as u64) < found.length {
+        return false;
+    }
+    drivelog::fetch(a, found.pos, found.length, &mut x);
+    drivelog::fetch(b, found.pos, found.length, &mut y);
+    same_bytes(&x, &y)
+}
+
+fn same_bytes(x: &[u8; MAX_DATA], y: &[u8; MAX_DATA]) -> bool {
+    let mut i: usize = 0;
+    while i < MAX_DATA {
+        if x[i] != y[i] {
+            return false;
+        }
+        i += 1;
+    }
+    true
+}
+
+// Where reading goes on, and whether there was a record with the data that was written.
+struct Turn {
+    cursor: Cursor,
+    good: bool,
+}
+
+// The cursor at the head of the log; one that next refuses, where the log does not open.
+fn first_cursor(image: &[u64; WORDS]) -> Cursor {
+    let opened = drivelog::open(image);
+    match opened {
+        Opened::At(cursor) => cursor,
+        Opened::Refused(_) => Cursor {
+            pos: 0,
+            lsn: 0,
+            used: 0,
+            count: 0,
+        },
+    }
+}
+
+// Reads the record at a cursor and compares its data with what was written.
+fn read_one(image: &[u64; WORDS], written: &[u64; WORDS], cursor: Cursor) -> Turn {
+    let step = drivelog::next(image, cursor);
+    match step {
+        Step::Record(found, behind) => Turn {
+            cursor: behind,
+            good: same_data(image, written, found),
+        },
+        Step::End(_) => Turn {
+            cursor,
+            good: false,
+        },
+        Step::Refused(_) => Turn {
+            cursor,
+            good: false,
+        },
+    }
+}
+
+// How many records can be read, from the first on, that have the data that was written.
+fn records_as_written(image: &[u64; WORDS], written: &[u64; WORDS]) -> u64
+    ensures { λ r. ⌜ r ≤ 64 ⌝ }
+{
+    let mut cursor = first_cursor(image);
+    let mut count: u64 = 0;
+    while count < 64 {
+        let turn = read_one(image, written, cursor);
+        if !turn.good {
+            return count;
+        }
+        cursor = turn.cursor;
+        count += 1;
+    }
+    count
+}
+
+// Says what was kept, if every durable record is among it and each that the recovery found has its data.
+fn close(kept: u64, durable: u64, next_lsn: u64)
+    requires { ⌜ kept ≤ 64 ⌝ }
+{
+    if (durable <= kept) & (kept + 1 == next_lsn) {
+        say::closing(kept, durable, next_lsn, SECOND_FORCE);
+    } else {
+        say::text(b"\nThe log has broken its promise.\n");
+    }
+}
+
+fn main() {
+    let mut image = new_words();
+    let mut ops = new_ops();
+    let mut flushed = new_words();
+    let mut stored = new_words();
+    say::opening();
+    let empty = format(&mut image, &mut ops, &mut flushed, &mut stored);
+    let durable = write_durable(empty, &mut image, &mut ops, &mut flushed, &mut stored);
+    let complete = write_more(durable, &mut image, &mut ops, &mut flushed, &mut stored);
+    force_cut(complete, &mut image, &mut ops, &mut flushed, &mut stored);
+    lose_power(&mut flushed, &mut stored);
+
+    let mut after = flushed;
+    let state = recover(&mut after, &mut ops, &mut flushed, &mut stored);
+    let count = records_as_written(&flushed, &image);
+    say::recovered(count, state.next_lsn, state.next_pos, KEPT_WORD as u64);
+    say::listing(&flushed);
+    close(count, durable.committed_lsn, state.next_lsn);
+}
