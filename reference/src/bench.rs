@@ -123,18 +123,8 @@ fn medians(cases: &[(Case, &[Program])], rounds: usize) -> Result<Vec<Vec<f64>>,
         cases.iter().map(|(_, programs)| vec![Vec::new(); programs.len()]).collect();
     for _ in 0..rounds {
         for (((case, programs), count), times) in cases.iter().zip(&counts).zip(&mut times) {
-            let mut digests = Vec::new();
-            for (program, times) in programs.iter().zip(times) {
-                let (time, digest) = program.run(*case, *count)?;
+            for (times, time) in times.iter_mut().zip(one_round(*case, programs, *count)?) {
                 times.push(time);
-                digests.push(digest);
-            }
-            if digests.iter().any(|digest| *digest != digests[0]) {
-                let mut line = format!("digests differ for {case}, count {count}:");
-                for (program, digest) in programs.iter().zip(digests) {
-                    line += &format!(" {digest} by {}", program.path.display());
-                }
-                return Err(Failure::Difference(line));
             }
         }
     }
@@ -146,6 +136,40 @@ fn medians(cases: &[(Case, &[Program])], rounds: usize) -> Result<Vec<Vec<f64>>,
         times.iter_mut().map(|times| median(times, count)).collect()
     };
     Ok(times.into_iter().zip(counts).map(of_case).collect())
+}
+
+/// Both programs do the same jobs, which are not timed, and leave the same. Tells how many jobs that were.
+pub fn same_work(proved: &Path, plain: &Path) -> Result<usize, Failure> {
+    let pair = [Program::new(proved), Program::new(plain)];
+    let mut jobs = 0;
+    for job in [APPEND, CRC, RECOVER, LIST] {
+        for bytes in [8, 63, 64, 991] {
+            for live in [0, 8, 33, 60] {
+                one_round(Case { job, bytes, live, words: LARGEST }, &pair, 100)?;
+                jobs += 1;
+            }
+        }
+    }
+    Ok(jobs)
+}
+
+/// The time of each program of a case, which have to leave the same.
+fn one_round(case: Case, programs: &[Program], count: u64) -> Result<Vec<u64>, Failure> {
+    let mut times = Vec::new();
+    let mut digests = Vec::new();
+    for program in programs {
+        let (time, digest) = program.run(case, count)?;
+        times.push(time);
+        digests.push(digest);
+    }
+    if digests.iter().any(|digest| *digest != digests[0]) {
+        let mut line = format!("digests differ for {case}, count {count}:");
+        for (program, digest) in programs.iter().zip(digests) {
+            line += &format!(" {digest} by {}", program.path.display());
+        }
+        return Err(Failure::Difference(line));
+    }
+    Ok(times)
 }
 
 /// Measures everything and prints the tables. `rounds` is not 0.

@@ -1,6 +1,6 @@
 //! The command line. `reference` alone says what there is.
 
-use reference::bench::{bench, Failure, Programs};
+use reference::bench::{bench, same_work, Failure, Programs};
 use reference::compare::{compare, compare_samples};
 use reference::cover::Coverage;
 use reference::crash::{crash_bench, Program};
@@ -27,6 +27,7 @@ usage: reference demo                    tell the story that the program demo te
                                          compare two other programs with ours on N seeds
        reference samples LOGLIST         run another loglist on images written word by word
        reference time PROGRAM...         how long each takes to list a full image
+       reference same-work PROVED PLAIN  whether two bench programs leave the same
        reference bench PROVED PLAIN C_BENCH [PMEM] [--rounds N]
                                          how long the calls take, case by case
        reference cover SEED N            count what N scripts reach
@@ -125,15 +126,13 @@ fn run(args: &[&str]) -> io::Result<ExitCode> {
             }
             let (proved, plain, crc) = (Path::new(proved), Path::new(plain), Path::new(crc));
             let programs = Programs { proved, plain, crc, pmemlog };
-            match bench(&programs, rounds, &mut stdout) {
-                Ok(()) => {}
-                Err(Failure::Io(error)) => return Err(error),
-                Err(Failure::Difference(line)) => {
-                    writeln!(stdout, "bench: {line}")?;
-                    stdout.flush()?;
-                    return Ok(ExitCode::FAILURE);
-                }
-            }
+            let done = bench(&programs, rounds, &mut stdout);
+            return no_difference(done, &mut stdout);
+        }
+        ["same-work", proved, plain] => {
+            let done = same_work(Path::new(proved), Path::new(plain))
+                .and_then(|jobs| Ok(writeln!(stdout, "same-work: {jobs} jobs, 0 differences")?));
+            return no_difference(done, &mut stdout);
         }
         ["cover", seed, count] => {
             let coverage = Coverage::of_scripts(parse(seed)?, parse(count)?);
@@ -147,6 +146,18 @@ fn run(args: &[&str]) -> io::Result<ExitCode> {
     }
     stdout.flush()?;
     Ok(ExitCode::SUCCESS)
+}
+
+/// Status 1 and a line if two programs left different things.
+fn no_difference(done: Result<(), Failure>, out: &mut impl Write) -> io::Result<ExitCode> {
+    match done {
+        Ok(()) => Ok(ExitCode::SUCCESS),
+        Err(Failure::Io(error)) => Err(error),
+        Err(Failure::Difference(line)) => {
+            writeln!(out, "{line}")?;
+            Ok(ExitCode::FAILURE)
+        }
+    }
 }
 
 fn crash(seconds: &str, options: &[&str]) -> io::Result<ExitCode> {
