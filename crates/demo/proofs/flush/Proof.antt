@@ -11,45 +11,18 @@ Inv-loop flushed₀ stored first count i₀ flushed i = i ≤ 64
 abbrev μ-loop : tie.MeasureT-loop
 μ-loop flushed₀ stored first count i₀ flushed i = 64 - i
 
-loop-holds : tie.Need-loop-holds Inv-loop μ-loop
-loop-holds c = search needs
-
-mul-flushed : tie.Need-mul-flushed Inv-loop μ-loop
-mul-flushed c = search needs
-
-element-copy-out-flushed : tie.Need-element-copy-out-flushed Inv-loop μ-loop
-element-copy-out-flushed c = search needs
-
-mul-flushed-2 : tie.Need-mul-flushed-2 Inv-loop μ-loop
-mul-flushed-2 c = search needs
-
-element-write-flushed : tie.Need-element-write-flushed Inv-loop μ-loop
-element-write-flushed c = search needs
-
-add-i : tie.Need-add-i Inv-loop μ-loop
-add-i c = search needs
-
-loop-less : tie.Need-loop-less Inv-loop μ-loop
-loop-less c = search needs
-
-loop-again : tie.Need-loop-again Inv-loop μ-loop
-loop-again c = search needs
-
-returns : tie.Need-returns Inv-loop μ-loop
-returns c = search needs
-
 pub flush-spec : {M : Type 1} → statement M
 flush-spec =
     tie.close
     (tie.spec
     Inv-loop
     μ-loop
-    loop-holds
-    mul-flushed
-    element-copy-out-flushed
-    mul-flushed-2
-    element-write-flushed
-    add-i
-    loop-less
-    loop-again
-    returns)
+    (λ c. search needs)
+    (λ c. search needs)
+    (λ c. search needs)
+    (λ c. search needs)
+    (λ c. search needs)
+    (λ c. search needs)
+    (λ c. search needs)
+    (λ c. search needs)
+    (λ c. search needs))

@@ -5,35 +5,17 @@ use Rattle.io.proofs.Counting.{front}
 use Rattle.replay.proofs.set_image.Statement.{statement}
 use Rattle.replay.proofs.set_image.Tie as tie
 
-stop-bad-requires : tie.Need-stop-bad-requires
-stop-bad-requires c κs = search needs
-
-returns : tie.Need-returns
-returns c = search needs
-
-slice-relend-prefix-fill-words : tie.Need-slice-relend-prefix-fill-words
-slice-relend-prefix-fill-words c = search needs
-
 slice-aggregate-fill-words : tie.Need-slice-aggregate-fill-words
 slice-aggregate-fill-words c = front _ _ (search needs)
-
-fill-words-requires : tie.Need-fill-words-requires
-fill-words-requires c κs = search needs
-
-same-length : tie.Need-same-length
-same-length c = search needs
-
-returns-2 : tie.Need-returns-2
-returns-2 c = search needs
 
 pub set-image-spec : {M : Type 1} → statement M
 set-image-spec =
     tie.close
     (tie.spec
-    stop-bad-requires
-    returns
-    slice-relend-prefix-fill-words
+    (λ c. λ κs. search needs)
+    (λ c. search needs)
+    (λ c. search needs)
     slice-aggregate-fill-words
-    fill-words-requires
-    same-length
-    returns-2)
+    (λ c. λ κs. search needs)
+    (λ c. search needs)
+    (λ c. search needs))

@@ -15,26 +15,8 @@ Inv-loop image text₀ count end₀ left₀ text end left = (end ≤ length text
 abbrev μ-loop : tie.MeasureT-loop
 μ-loop image text₀ count end₀ left₀ text end left = left
 
-loop-holds : tie.Need-loop-holds Inv-loop μ-loop
-loop-holds c = search needs
-
-list-image-requires : tie.Need-list-image-requires Inv-loop μ-loop
-list-image-requires c κs = search needs
-
-sub-left : tie.Need-sub-left Inv-loop μ-loop
-sub-left c = search needs
-
-loop-less : tie.Need-loop-less Inv-loop μ-loop
-loop-less c = search needs
-
 loop-again : tie.Need-loop-again Inv-loop μ-loop
 loop-again c = (appended-within (c .before .before .list-image .ensures) (omega arith), search needs)
-
-same-length : tie.Need-same-length Inv-loop μ-loop
-same-length c = search needs
-
-returns : tie.Need-returns Inv-loop μ-loop
-returns c = search needs
 
 pub list-over-spec : {M : Type 1} → statement M
 list-over-spec =
@@ -42,10 +24,10 @@ list-over-spec =
     (tie.spec
     Inv-loop
     μ-loop
-    loop-holds
-    list-image-requires
-    sub-left
-    loop-less
+    (λ c. search needs)
+    (λ c. λ κs. search needs)
+    (λ c. search needs)
+    (λ c. search needs)
     loop-again
-    same-length
-    returns)
+    (λ c. search needs)
+    (λ c. search needs))

@@ -8,11 +8,5 @@ use Rattle.replay.proofs.output.write_front.Tie as tie
 slice-aggregate-write-all : tie.Need-slice-aggregate-write-all
 slice-aggregate-write-all c = front _ _ (search needs)
 
-write-all-requires : tie.Need-write-all-requires
-write-all-requires c κs = search needs
-
-returns : tie.Need-returns
-returns c = search needs
-
 pub write-front-spec : {M : Type 1} → statement M
-write-front-spec = tie.close (tie.spec slice-aggregate-write-all write-all-requires returns)
+write-front-spec = tie.close (tie.spec slice-aggregate-write-all (λ c. λ κs. search needs) (λ c. search needs))
