@@ -1,7 +1,7 @@
 # demo: the log in a minute, with a power failure. test: the gate. prove: every function and theorem, with no program run.
 # list: the records of a sample module. compare, crash: the built programs against the reference for longer, as `make compare
 # SCRIPTS=1000`, `make crash SECONDS=600`. bench: how long the calls take beside plain Rust, zlib and libpmemlog. speed: how long
-# loglist takes for a full image, beside one in plain Rust.
+# loglist takes for a full image, beside one in plain Rust. docs/TESTING.md says what the tests show, docs/SPEED.md what the times say.
 .PHONY: demo list prove test compare crash speed bench bench-c programs
 
 SCRIPTS ?= 1000
