@@ -4,6 +4,7 @@ use crate::WORDS;
 use drivelog::Answer;
 use libc::STDOUT_FILENO;
 use listing::LISTING_ROOM;
+use listing::Listed;
 use listing::list_image;
 ghost use mathlib.Core.Path.{_≡_};
 ghost use lib.ListN.{length};
@@ -182,8 +183,10 @@ fn listing_room() -> [u8; LISTING_ROOM]
 pub fn listing(image: &[u64; WORDS]) {
     text(b"\nThe listing of the module, as loglist prints it:\n");
     let mut room = listing_room();
-    let end = list_image(image, &mut room);
-    text(&room[..end]);
+    let listed = list_image(image, &mut room);
+    if let Listed::Text(end) = listed {
+        text(&room[..end]);
+    }
 }
 
 // Writes what a recovery found. Position 0 of the ring is word 24, and no ring has more than 8,168 positions.

@@ -1,7 +1,7 @@
 // Words of the script, off standard input.
 // `read_command` takes a command with its arguments, and `read_payload` the bytes behind a copy.
-use layout::pack;
-ghost use Prim.Native.Nat.{_≤_, _<_};
+use layout::words::word_at;
+ghost use Prim.Native.Nat.{_≤_};
 ghost use lib.ListN.{length};
 
 // A command's arguments; those that it does not have are 0. Where the input ended first, `whole` is false.
@@ -21,24 +21,6 @@ pub enum Command {
     End,
 }
 
-// Word `i` of the bytes read.
-fn word_at(bytes: &[u8; 40], i: usize) -> u64
-    requires { ⌜ i < 5 ⌝ }
-{
-    let at = 8 * i;
-    let b = [
-        bytes[at],
-        bytes[at + 1],
-        bytes[at + 2],
-        bytes[at + 3],
-        bytes[at + 4],
-        bytes[at + 5],
-        bytes[at + 6],
-        bytes[at + 7],
-    ];
-    pack(b)
-}
-
 // Reads `count` words.
 fn read_args(count: usize) -> Args
     requires { ⌜ count ≤ 5 ⌝ }
@@ -49,10 +31,10 @@ fn read_args(count: usize) -> Args
     Args {
         whole: got == size,
         first: word_at(&bytes, 0),
-        second: word_at(&bytes, 1),
-        third: word_at(&bytes, 2),
-        fourth: word_at(&bytes, 3),
-        fifth: word_at(&bytes, 4),
+        second: word_at(&bytes, 8),
+        third: word_at(&bytes, 16),
+        fourth: word_at(&bytes, 24),
+        fifth: word_at(&bytes, 32),
     }
 }
 
