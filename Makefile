@@ -1,7 +1,7 @@
 # demo: the log in a minute, with a power failure. test: the gate. prove: every function and theorem, with no program run.
 # list: the records of a sample module. compare, crash: the built programs against the reference for longer, as `make compare
 # SCRIPTS=1000`, `make crash SECONDS=600`. bench: how long the calls take beside plain Rust, zlib and libpmemlog. speed: how long
-# loglist takes for a full image, beside one in plain Rust.
+# loglist takes for a full image, beside one in plain Rust. docs/TESTING.md says what the tests show, docs/SPEED.md what the times say.
 .PHONY: demo list prove test compare crash speed bench bench-c programs
 
 SCRIPTS ?= 1000
@@ -9,10 +9,9 @@ SECONDS ?= 60
 SEED ?= 1
 reference = reference/target/release/reference
 
-# What the check says is shown only if it fails.
+# Says crate by crate how far the proofs are; what the check says is shown only if it fails.
 demo:
-	@test -x target/bin/demo || echo "proving the demo and what it calls, some minutes the first time .." >&2
-	@mkdir -p target && { rt check demo > target/demo.log 2>&1 || { cat target/demo.log; exit 1; }; }
+	@mkdir -p target && tests/progress target/demo.log rt check demo
 	@target/bin/demo
 
 list:

@@ -1,10 +1,10 @@
 // The jobs: each sets its work up, does it between two looks at the clock, and takes a CRC-32 of what is left.
 use crate::log;
 use crate::room;
-use listing::words_from;
+use drivelog::State;
+use layout::words::words_from;
 ghost use Prim.Native.Nat.{_*_, _≤_};
 ghost use lib.ListN.{length};
-ghost use Rattle.listing.specs.Listing.{listingRoom};
 
 // What to do: the job's number, the bytes of a record, the live records, how often, and the words of the image.
 pub struct Job {
@@ -43,15 +43,46 @@ fn since(before: u64) -> u64 {
     after - before
 }
 
-// Job 1: appends, each followed by releases that leave `live` records.
-fn append_job(job: Job, image: &mut [u64], ops: &mut [u64], payload: &[u8]) -> Done {
+// Does the work of job 1, 3 or, for any other number, 4, so often: appends, each followed by releases that leave `live`
+// records; recoveries; listings. Answers the bytes of a listing's text.
+fn work(
+    job: Job,
+    s: State,
+    image: &mut [u64],
+    ops: &mut [u64],
+    payload: &[u8],
+    text: &mut [u8],
+) -> usize
+    ensures { λ r. ⌜ r ≤ length (now (text .entry)) ⌝ }
+{
+    if job.number == 1 {
+        log::append_over(s, image, ops, payload, job.live, job.count);
+        return 0;
+    }
+    if job.number == 3 {
+        log::recover_over(image, ops, job.count);
+        return 0;
+    }
+    log::list_over(image, text, job.count)
+}
+
+// A CRC-32 of what a job left: of the image after appends and recoveries, of the text after listings.
+fn digest_of(number: u64, image: &[u64], text: &[u8]) -> u64 {
+    if (number == 1) | (number == 3) {
+        return room::digest(image);
+    }
+    crc32::crc_bytes(text) as u64
+}
+
+// Does job 1, 3 or 4 on a log with `live` records.
+fn job_on(job: Job, image: &mut [u64], ops: &mut [u64], payload: &[u8], text: &mut [u8]) -> Done {
     let s = log::start(image, ops, payload, job.live);
     let before = now();
-    log::append_over(s, image, ops, payload, job.live, job.count);
+    let end = work(job, s, image, ops, payload, text);
     let microseconds = since(before);
     Done {
         microseconds,
-        digest: room::digest(image),
+        digest: digest_of(job.number, image, &text[..end]),
     }
 }
 
@@ -69,32 +100,6 @@ fn crc_job(job: Job, payload: &[u8], words: &mut [u64]) -> Done
     }
 }
 
-// Job 3: recoveries of an image with `live` records.
-fn recover_job(job: Job, image: &mut [u64], ops: &mut [u64], payload: &[u8]) -> Done {
-    log::start(image, ops, payload, job.live);
-    let before = now();
-    log::recover_over(image, ops, job.count);
-    let microseconds = since(before);
-    Done {
-        microseconds,
-        digest: room::digest(image),
-    }
-}
-
-// Job 4: listings of an image with `live` records.
-fn list_job(job: Job, image: &mut [u64], ops: &mut [u64], payload: &[u8], text: &mut [u8]) -> Done
-    requires { ⌜ listingRoom ≤ length (now text) ⌝ }
-{
-    log::start(image, ops, payload, job.live);
-    let before = now();
-    let end = log::list_over(image, text, job.count);
-    let microseconds = since(before);
-    Done {
-        microseconds,
-        digest: crc32::crc_bytes(&text[..end]) as u64,
-    }
-}
-
 // A number, taken down to a limit.
 fn limited(n: u64, limit: usize) -> usize
     ensures { λ r. ⌜ (r ≤ limit) × (r ≤ n) ⌝ }
@@ -105,20 +110,8 @@ fn limited(n: u64, limit: usize) -> usize
     n as usize
 }
 
-// Does job 1, 3 or, for any other number, 4.
-fn job_on(job: Job, image: &mut [u64], ops: &mut [u64], payload: &[u8]) -> Done {
-    if job.number == 1 {
-        return append_job(job, image, ops, payload);
-    }
-    if job.number == 3 {
-        return recover_job(job, image, ops, payload);
-    }
-    let mut text = room::text();
-    list_job(job, image, ops, payload, &mut text)
-}
-
 // Does a job. Numbers above the limits are taken down to them.
-pub fn run(job: Job, image: &mut [u64], ops: &mut [u64], payload: &[u8]) -> Done
+pub fn run(job: Job, image: &mut [u64], ops: &mut [u64], payload: &[u8], text: &mut [u8]) -> Done
     requires { ⌜ length (now payload) ≤ 1024 ⌝ }
 {
     let k = limited(job.bytes, payload.len());
@@ -127,5 +120,5 @@ pub fn run(job: Job, image: &mut [u64], ops: &mut [u64], payload: &[u8]) -> Done
         return crc_job(job, &payload[..k], &mut image[..n]);
     }
     let n = limited(job.words, image.len());
-    job_on(job, &mut image[..n], ops, &payload[..k])
+    job_on(job, &mut image[..n], ops, &payload[..k], text)
 }

@@ -7,10 +7,10 @@ use drivelog::format;
 use drivelog::recover;
 use drivelog::release;
 use drivelog::reserve;
+use listing::Listed;
 use listing::list_image;
 ghost use Prim.Native.Nat.{_≤_};
 ghost use lib.ListN.{length};
-ghost use Rattle.listing.specs.Listing.{listingRoom};
 
 // One record more, reserved and filled.
 fn draft(s: State, image: &mut [u64], ops: &mut [u64], payload: &[u8]) -> State {
@@ -36,7 +36,8 @@ fn is_over(head: u64, next: u64, committed: u64, live: u64) -> bool {
     (head <= committed) & (live < next - head)
 }
 
-// Records released from the head on, committed ones only, until `live` are left. A proved loop has to end: 64 turns are enough.
+// Records released from the head on, committed ones only, until `live` are left. A proved loop has to end: 64 turns
+// are enough.
 pub fn trim(s: State, image: &mut [u64], ops: &mut [u64], live: u64) -> State {
     let mut t = s;
     let mut turns: u64 = 64;
@@ -87,15 +88,25 @@ pub fn recover_over(image: &mut [u64], ops: &mut [u64], count: u64) {
     }
 }
 
-// So many listings of an image. Returns the bytes of the text.
+// A listing of an image. Answers the bytes of its text, 0 where the buffer has no room for any text.
+fn list(image: &[u64], text: &mut [u8]) -> usize
+    ensures { λ r. ⌜ r ≤ length (now (text .entry)) ⌝ }
+{
+    let listed = list_image(image, text);
+    match listed {
+        Listed::Text(end) => end,
+        Listed::NoRoom => 0,
+    }
+}
+
+// So many listings of an image. Answers the bytes of the text.
 pub fn list_over(image: &[u64], text: &mut [u8], count: u64) -> usize
-    requires { ⌜ listingRoom ≤ length (now text) ⌝ }
     ensures { λ r. ⌜ r ≤ length (now (text .entry)) ⌝ }
 {
     let mut end: usize = 0;
     let mut left = count;
     while 0 < left {
-        end = list_image(image, text);
+        end = list(image, text);
         left -= 1;
     }
     end

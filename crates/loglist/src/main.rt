@@ -1,8 +1,9 @@
-// The program loglist: reads an image's bytes from standard input and prints the records that it lists. What it prints is
-// `bytesText` of what it reads, by the contract of `list_bytes`; that it reads and prints is beyond any contract.
+// The program loglist: reads an image's bytes from standard input and prints the records that it lists. What it prints
+// is `bytesText` of what it reads, by the contract of `list_bytes`; that it reads and prints is beyond any contract.
 use libc::STDIN_FILENO;
 use libc::STDOUT_FILENO;
 use listing::LISTING_ROOM;
+use listing::Listed;
 use listing::list_bytes;
 ghost use mathlib.Core.Path.{_≡_};
 ghost use lib.ListN.{length};
@@ -26,6 +27,8 @@ fn main() {
     let mut input = input_room();
     let n = io::read_full(STDIN_FILENO, &mut input);
     let mut text = text_room();
-    let end = list_bytes(&input[..n], &mut text);
-    io::write_all(STDOUT_FILENO, &text[..end]);
+    let listed = list_bytes(&input[..n], &mut text);
+    if let Listed::Text(end) = listed {
+        io::write_all(STDOUT_FILENO, &text[..end]);
+    }
 }

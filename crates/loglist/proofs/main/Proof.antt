@@ -1,32 +1,23 @@
 -- `loglist::main` meets its contract: it is safe, and ends if its reads and writes do. The text ends within its room.
--- Cites AppendLaws.antt of text.
+-- Cites AnswerLaws.antt of listing.
 use mathlib.Core.Path.{sym}
 use native.Mathlib.Omega.{arith}
 use lib.Seq.{length-take-le}
-use Rattle.text.proofs.AppendLaws.{appended-within}
+use Rattle.listing.proofs.AnswerLaws.{listed-within}
 use borrow.Author.Needs.{needs}
 use Rattle.loglist.proofs.main.Statement.{statement}
 use Rattle.loglist.proofs.main.Tie as tie
 
 array-share-prefix-text : tie.Need-array-share-prefix-text
-array-share-prefix-text c = appended-within (c .before .list-bytes .ensures) (omega arith)
+array-share-prefix-text c = listed-within (c .before .before .before .before .list-bytes .ensures) (c .before .listed .given .1) (omega arith)
 
 slice-aggregate-write-all : tie.Need-slice-aggregate-write-all
-slice-aggregate-write-all c = sym (length-take-le _ _ (appended-within (c .before .before .list-bytes .ensures) (omega arith)))
+slice-aggregate-write-all c = sym (length-take-le _ _ (listed-within (c .before .before .before .before .before .list-bytes .ensures) (c .before .before .listed .given .1) (omega arith)))
 
 pub main-spec : {M : Type 1} → statement M
 main-spec =
     tie.close
-    (tie.spec
-    (λ c. λ κs. search needs)
-    (λ c. search needs)
-    (λ c. λ κs. search needs)
-    (λ c. λ κs. search needs)
-    (λ c. search needs)
-    (λ c. search needs)
-    (λ c. search needs)
-    (λ c. λ κs. search needs)
-    array-share-prefix-text
-    slice-aggregate-write-all
-    (λ c. λ κs. search needs)
-    (λ c. search needs))
+    (tie.spec (λ c. λ κs. search needs) (λ c. search needs) (λ c. λ κs. search needs) (λ c. λ κs. search needs)
+    (λ c. search needs) (λ c. search needs) (λ c. search needs) (λ c. λ κs. search needs) (λ c. search needs)
+    array-share-prefix-text slice-aggregate-write-all (λ c. λ κs. search needs) (λ c. search needs)
+    (λ c. search needs) (λ c. search needs))
