@@ -17,6 +17,7 @@
 pub mod calls;
 pub mod layout;
 pub mod ops;
+pub mod query;
 pub mod refusal;
 pub mod state;
 
@@ -29,11 +30,13 @@ pub mod device;
 
 // Programs.
 pub mod bench;
+pub mod c_calls;
 pub mod compare;
 pub mod cover;
 pub mod crash;
 pub mod demo;
 pub mod gen;
+pub mod images;
 pub mod loglist;
 pub mod replay;
 pub mod rng;

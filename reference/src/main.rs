@@ -1,6 +1,7 @@
 //! The command line. `reference` alone says what there is.
 
 use reference::bench::{bench, same_work, Failure, Programs};
+use reference::c_calls::c_calls;
 use reference::compare::{compare, compare_samples};
 use reference::cover::Coverage;
 use reference::crash::{crash_bench, Program};
@@ -25,6 +26,7 @@ usage: reference demo                    tell the story that the program demo te
        reference image SEED              write an image from that script, perhaps damaged
        reference compare REPLAY LOGLIST SEED N
                                          compare two other programs with ours on N seeds
+       reference c-calls DRIVER SEED N   compare the calls that a C program makes with ours, on N images
        reference samples LOGLIST         run another loglist on images written word by word
        reference time PROGRAM...         how long each takes to list a full image
        reference same-work PROVED PLAIN  whether two bench programs leave the same
@@ -94,6 +96,30 @@ fn run(args: &[&str]) -> io::Result<ExitCode> {
             )?;
             stdout.flush()?;
             return Ok(if result.difference.is_none() {
+                ExitCode::SUCCESS
+            } else {
+                ExitCode::FAILURE
+            });
+        }
+        ["c-calls", driver, seed, count] => {
+            let report = c_calls(Path::new(driver), parse(seed)?, parse(count)?)?;
+            if let Some((image, found)) = &report.difference {
+                writeln!(
+                    stdout,
+                    "seed {}, image '{image}': line {} differs",
+                    found.seed, found.line
+                )?;
+                writeln!(stdout, "reference: {}\nprogram:   {}", found.ours, found.theirs)?;
+            }
+            writeln!(
+                stdout,
+                "c-calls: {} images, {} calls, {} differences",
+                report.images,
+                report.calls,
+                report.difference.iter().count()
+            )?;
+            stdout.flush()?;
+            return Ok(if report.difference.is_none() {
                 ExitCode::SUCCESS
             } else {
                 ExitCode::FAILURE
