@@ -32,12 +32,12 @@ extern "C" {
 /* Why a call declines. A call returns the number with a minus sign, as -DRIVELOG_DAMAGED. The tests run in this order, and the
  * first that fails decides; while the log is read, DRIVELOG_TOO_MANY is tested before DRIVELOG_DAMAGED at each record. */
 enum drivelog_refusal {
-    DRIVELOG_IMAGE_SIZE = 1,    /* bytes is not a multiple of 8, or not 320 to 65,536 */
-    DRIVELOG_SUPERLINE = 4,     /* the words that say where the log begins are wrong: no log, or one of another size */
-    DRIVELOG_TOO_MANY = 13,     /* more than 64 records before the end */
-    DRIVELOG_DAMAGED = 12,      /* a record is damaged; the whole list is refused, also what stands before the damage */
-    DRIVELOG_NO_RECORD = 16,    /* index is not below the number of listed records */
-    DRIVELOG_OUTPUT_SHORT = 14  /* the payload is longer than room */
+    DRIVELOG_IMAGE_SIZE = 1,      /* bytes is not a multiple of 8, or not 320 to 65,536 */
+    DRIVELOG_SUPERLINE = 4,       /* the words that say where the log begins are wrong: no log, or one of another size */
+    DRIVELOG_TOO_MANY = 13,       /* more than 64 records before the end */
+    DRIVELOG_DAMAGED = 12,        /* a record is damaged; the whole list is refused, also what stands before the damage */
+    DRIVELOG_NO_SUCH_RECORD = 16, /* index is not below the number of listed records */
+    DRIVELOG_OUTPUT_SHORT = 14    /* the payload is longer than room */
 };
 
 enum drivelog_limit {
@@ -64,7 +64,7 @@ int64_t drivelog_kind(const uint8_t *image, size_t bytes, uint64_t index);
 /*
      The kind of one listed record, 1 to 65,535. Index 0 is the oldest listed record, the number of records less 1 the newest.
 
-     Returns the kind, or what drivelog_count returns where that is a refusal, or -DRIVELOG_NO_RECORD.
+     Returns the kind, or what drivelog_count returns where that is a refusal, or -DRIVELOG_NO_SUCH_RECORD.
 
      Example:
 

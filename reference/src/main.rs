@@ -9,6 +9,7 @@ use reference::demo::demo;
 use reference::gen;
 use reference::loglist::{loglist, read_image_bytes};
 use reference::replay::replay;
+use reference::samples::full_image;
 use reference::shortcut::Shortcut;
 use reference::time::list_times;
 use std::fs;
@@ -24,13 +25,14 @@ usage: reference demo                    tell the story that the program demo te
        reference gen SEED                write one random script to standard output
        reference gen SEED N DIR          write N scripts as DIR/script-<seed>.bin
        reference image SEED              write an image from that script, perhaps damaged
+       reference full-image              write a full image of 8,192 words
        reference compare REPLAY LOGLIST SEED N
                                          compare two other programs with ours on N seeds
        reference c-calls DRIVER SEED N   compare the calls that a C program makes with ours, on N images
        reference samples LOGLIST         run another loglist on images written word by word
        reference time PROGRAM...         how long each takes to list a full image
        reference same-work PROVED PLAIN  whether two bench programs leave the same
-       reference bench PROVED PLAIN C_BENCH [PMEM] [--rounds N]
+       reference bench PROVED PLAIN C_BENCH [PMEM] [--calls C_CALLS] [--rounds N]
                                          how long the calls take, case by case
        reference cover SEED N            count what N scripts reach
        reference crash SECONDS [--program PATH] [--seed S] [--shortcut K]
@@ -76,6 +78,7 @@ fn run(args: &[&str]) -> io::Result<ExitCode> {
             }
         }
         ["image", seed] => stdout.write_all(&gen::image(parse(seed)?))?,
+        ["full-image"] => stdout.write_all(&full_image())?,
         ["compare", replay, loglist, seed, count] => {
             let result =
                 compare(Path::new(replay), Path::new(loglist), parse(seed)?, parse(count)?)?;
@@ -140,18 +143,25 @@ fn run(args: &[&str]) -> io::Result<ExitCode> {
             }
         }
         ["bench", proved, plain, crc, options @ ..] => {
-            let (pmemlog, rounds) = match options {
-                [] => (None, 31),
-                [pmemlog] if !pmemlog.starts_with('-') => (Some(Path::new(pmemlog)), 31),
-                ["--rounds", rounds] => (None, parse(rounds)?),
-                [pmemlog, "--rounds", rounds] => (Some(Path::new(pmemlog)), parse(rounds)?),
-                _ => return Err(invalid(format!("not an option: {}", options.join(" ")))),
+            let (pmemlog, options) = match options {
+                [pmemlog, rest @ ..] if !pmemlog.starts_with('-') => {
+                    (Some(Path::new(*pmemlog)), rest)
+                }
+                _ => (None, options),
             };
+            let (mut calls, mut rounds) = (None, 31);
+            for option in options.chunks(2) {
+                match *option {
+                    ["--calls", path] => calls = Some(Path::new(path)),
+                    ["--rounds", number] => rounds = parse(number)?,
+                    _ => return Err(invalid(format!("not an option: {}", option.join(" ")))),
+                }
+            }
             if rounds == 0 {
                 return Err(invalid("not a good number: 0".to_string()));
             }
             let (proved, plain, crc) = (Path::new(proved), Path::new(plain), Path::new(crc));
-            let programs = Programs { proved, plain, crc, pmemlog };
+            let programs = Programs { proved, plain, crc, pmemlog, calls };
             let done = bench(&programs, rounds, &mut stdout);
             return no_difference(done, &mut stdout);
         }
