@@ -51,7 +51,7 @@ crash: programs
 speed: programs
 	$(reference) time target/bin/loglist reference/target/release/plain_loglist
 
-# Each case by turns, as `make bench ROUNDS=101`. Without libpmemlog or the calls for C a line says so.
+# Each case by turns, as `make lib bench ROUNDS=101`. Where libpmemlog or the archive of `make lib` is not there, a line says so.
 ROUNDS ?= 31
 bench: programs bench-c
 	rt check bench
