@@ -11,12 +11,13 @@
  * Memory: `image` points to `bytes` bytes that can be read, `output` to `room` bytes that can be written. Neither needs any
  * alignment. Where the length is 0 the pointer is not followed and may be null. Image and output may not overlap.
  *
- * Stack: TO MEASURE. A call holds one image of the largest size, 64 KB, and little more.
+ * Stack: a call takes at most 69,632 bytes (68 KB): the words of the largest image, 64 KB, whatever the size of this one, and less
+ * than 4 KB more.
  *
  * Time: every call tests the superline, then reads the whole log and computes the check of every record, whatever it is asked; a
- * payload comes on top of that. On a full image of the largest size a call takes about TO MEASURE microseconds, so count and then
- * kind, LSN and payload of all 64 records, 193 calls, take about TO MEASURE milliseconds. Ask only for what is needed: kinds
- * first, payloads of those that matter.
+ * payload comes on top of that. On a full image of the largest size a call takes about 50 microseconds (docs/SPEED.md), so that to
+ * ask one record at a time, count and then kind, LSN and payload of all 64, takes 193 calls and about 10 milliseconds. Ask only for what
+ * is needed: kinds first, payloads of those that matter.
  */
 
 #ifndef DRIVELOG_H
