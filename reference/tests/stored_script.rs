@@ -65,9 +65,9 @@ fn the_stored_lines_have_the_rows_of_the_bench_sheet() {
         "copy ok orders 0 ",
     ];
     let lines: Vec<&str> = STDOUT.lines().collect();
-    let first = lines.windows(rows.len()).position(|part| {
-        part.iter().zip(rows).all(|(line, row)| line.starts_with(row))
-    });
+    let first = lines
+        .windows(rows.len())
+        .position(|part| part.iter().zip(rows).all(|(line, row)| line.starts_with(row)));
     let behind = first.expect("the rows stand one behind another") + rows.len();
     // 1 to 9 complete: the format, nine reserves, nine completes, the two forces, the state.
     let forces = behind + 1 + 9 + 9;

@@ -24,7 +24,8 @@ fn read_bytes(bytes: &mut [u8], count: u64) -> bool {
     got == size
 }
 
-// Reads `count` words, and tells whether all were there. The others become 0.
+// Reads `count` words, five at most, and tells whether all were there. The others become 0. The remainder is the count itself, and
+// keeps the product from wrapping.
 fn read_words(words: &mut [u64; 5], count: u64) -> bool {
     let mut bytes = [0u8; 40];
     let whole = read_bytes(&mut bytes, 8 * (count % 8));
