@@ -19,6 +19,10 @@ const LIST: u64 = 4;
 const COUNT_RECORDS: u64 = 5;
 const ONE_RECORD: u64 = 6;
 const ALL_RECORDS: u64 = 7;
+/// Release of the head, plus the number of released records behind it.
+const RELEASE: u64 = 1000;
+/// The same with an LSN that is not live: refused right behind the soundness test.
+const NOT_LIVE: u64 = 2000;
 
 /// Words of the largest image.
 const LARGEST: u64 = 8_192;
@@ -109,7 +113,9 @@ impl Case {
             LIST => "list",
             COUNT_RECORDS => "the number of records",
             ONE_RECORD => "kind, LSN and payload of one record",
-            _ => "number, then kind, LSN and payload of all",
+            ALL_RECORDS => "number, then kind, LSN and payload of all",
+            RELEASE..NOT_LIVE => "release",
+            _ => "release of no live LSN",
         }
     }
 }
@@ -159,6 +165,15 @@ pub fn same_work(proved: &Path, plain: &Path) -> Result<usize, Failure> {
         for bytes in [8, 63, 64, 991] {
             for live in [0, 8, 33, 60] {
                 one_round(Case { job, bytes, live, words: LARGEST }, &pair, 100)?;
+                jobs += 1;
+            }
+        }
+    }
+    for job in [RELEASE, NOT_LIVE] {
+        for released in [0, 1, 8, 60] {
+            for live in [released + 1, released + 2, 62] {
+                let case = Case { job: job + released, bytes: 8, live, words: LARGEST };
+                one_round(case, &pair, 100)?;
                 jobs += 1;
             }
         }
@@ -215,6 +230,18 @@ pub fn bench(programs: &Programs, rounds: usize, out: &mut impl Write) -> Result
         .into_iter()
         .chain([0, 16, 32, 48, 60].map(|live| append(64, live, LARGEST)))
         .collect();
+    // The live records are as many whatever k is; then k is 0, with more and more live records behind the new head.
+    let release_cases: Vec<Case> = [(0, 62), (8, 62), (60, 62), (0, 2), (0, 30)]
+        .into_iter()
+        .flat_map(|(released, live)| {
+            [RELEASE, NOT_LIVE].map(|job| Case {
+                job: job + released,
+                bytes: 8,
+                live,
+                words: LARGEST,
+            })
+        })
+        .collect();
 
     let c_calls = [COUNT_RECORDS, ONE_RECORD, ALL_RECORDS].map(|job| Case { job, ..full_image[0] });
 
@@ -224,8 +251,9 @@ pub fn bench(programs: &Programs, rounds: usize, out: &mut impl Write) -> Result
     let crc = Program::new(programs.crc);
     let checks = [proved, Program { args: &["zlib"], ..crc }, Program { args: &["table"], ..crc }];
     let mut cases: Vec<(Case, &[Program])> = Vec::new();
-    for case in
-        [&appends[..], &crcs, &full_image, &scan_growth, &append_growth].into_iter().flatten()
+    for case in [&appends[..], &crcs, &full_image, &scan_growth, &append_growth, &release_cases]
+        .into_iter()
+        .flatten()
     {
         // Some are in two tables.
         if !cases.iter().any(|(other, _)| other == case) {
@@ -245,6 +273,7 @@ pub fn bench(programs: &Programs, rounds: usize, out: &mut impl Write) -> Result
     print_full_image(&full_image, &times, out)?;
     print_scan_growth(&scan_growth, &times, out)?;
     print_append_growth(&append_growth, &times, out)?;
+    print_releases(&release_cases, &times, out)?;
     if calls.is_some() {
         print_c_calls(&c_calls, &times, out)?;
     } else {
@@ -337,6 +366,23 @@ fn print_append_growth(cases: &[Case], times: &Times, out: &mut impl Write) -> R
     for case in cases {
         let mut row = vec![grouped(case.words), grouped(case.live)];
         row.extend(pair_cells(case, times));
+        table.row(row);
+    }
+    table.print(out)
+}
+
+/// The cases stand in pairs: the release, and the one that is refused behind the soundness test.
+fn print_releases(cases: &[Case], times: &Times, out: &mut impl Write) -> Result<(), Failure> {
+    let mut table = Table::new(
+        "Release of the head with k released records behind it; what is left without the soundness test.",
+        &["k", "live", "proved ns", "refused ns", "left", "plain Rust ns", "refused ns", "left"],
+    );
+    for pair in cases.chunks_exact(2) {
+        let (granted, refused) = (&times[&pair[0]], &times[&pair[1]]);
+        let mut row = vec![grouped(pair[0].job % RELEASE), grouped(pair[0].live)];
+        for (granted, refused) in granted.iter().zip(refused) {
+            row.extend([ns(*granted), ns(*refused), ns(granted - refused)]);
+        }
         table.row(row);
     }
     table.print(out)

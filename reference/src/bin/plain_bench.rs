@@ -2,7 +2,8 @@
 //! microseconds of CPU time that the timed part took and a CRC-32 of what it left. Bad input: nothing.
 //!
 //! Jobs: 1 append, 2 CRC-32, 3 recover, 4 list. Jobs 5 to 7 read an image of so many words behind the five numbers and get, in one pass,
-//! what tests/bench/calls.c gets call by call: 5 the number of listed records, 6 the last of them, 7 all of them.
+//! what tests/bench/calls.c gets call by call: 5 the number of listed records, 6 the last of them, 7 all of them. Job 1000 + k is the
+//! release of the head with k released records behind it, 2000 + k one that is refused behind the soundness test.
 
 use reference::calls::Done;
 use reference::plain::{self, State};
@@ -173,6 +174,23 @@ fn run(job: u64, bytes: u64, live: u64, count: u64, words: usize) -> Option<(i64
                 }
             });
             Some((time, plain::crc32_of_bytes(&text)))
+        }
+        1000..3000 => {
+            let mut log = Log::with_live(words, payload, live);
+            let head = log.state.head_lsn;
+            for lsn in (head + 1..=head + job % 1000).rev() {
+                let Log { image, op_buffer, state, .. } = &mut log;
+                let _ = plain::release(image, op_buffer, state, lsn);
+            }
+            let lsn = if job < 2000 { head } else { 0 };
+            let Log { mut image, mut op_buffer, state, .. } = log;
+            let time = time(|| {
+                for _ in 0..count {
+                    let mut state = black_box(&state).clone();
+                    let _ = black_box(plain::release(&mut image, &mut op_buffer, &mut state, lsn));
+                }
+            });
+            Some((time, plain::crc32_of_words(&image)))
         }
         _ => None,
     }
