@@ -9,10 +9,9 @@ SECONDS ?= 60
 SEED ?= 1
 reference = reference/target/release/reference
 
-# What the check says is shown only if it fails.
+# Says crate by crate how far the proofs are; what the check says is shown only if it fails.
 demo:
-	@test -x target/bin/demo || echo "proving the demo and what it calls, some minutes the first time .." >&2
-	@mkdir -p target && { rt check demo > target/demo.log 2>&1 || { cat target/demo.log; exit 1; }; }
+	@mkdir -p target && tests/progress target/demo.log rt check demo
 	@target/bin/demo
 
 list:

@@ -40,4 +40,5 @@ pub mod rng;
 pub mod samples;
 pub mod script;
 pub mod shortcut;
+pub mod stored_script;
 pub mod time;

@@ -9,6 +9,7 @@ use reference::gen;
 use reference::loglist::{loglist, read_image_bytes};
 use reference::replay::replay;
 use reference::shortcut::Shortcut;
+use reference::stored_script::stored_script;
 use reference::time::list_times;
 use std::fs;
 use std::io::{self, BufWriter, Write};
@@ -20,6 +21,7 @@ const USAGE: &str = "\
 usage: reference demo                    tell the story that the program demo tells
        reference loglist                 list the image on standard input
        reference replay [--shortcut K]   run the script on standard input
+       reference stored-script           write the stored script of the program replay
        reference gen SEED                write one random script to standard output
        reference gen SEED N DIR          write N scripts as DIR/script-<seed>.bin
        reference image SEED              write an image from that script, perhaps damaged
@@ -64,6 +66,7 @@ fn run(args: &[&str]) -> io::Result<ExitCode> {
         ["replay", "--shortcut", number] => {
             replay(io::stdin().lock(), &mut stdout, Some(shortcut(number)?))?;
         }
+        ["stored-script"] => stdout.write_all(&stored_script())?,
         ["gen", seed] => stdout.write_all(&gen::script(parse(seed)?))?,
         ["gen", seed, count, directory] => {
             let first: u64 = parse(seed)?;

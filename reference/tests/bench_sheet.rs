@@ -218,6 +218,21 @@ fn published_check_values() {
     assert_eq!(crc32(0..32), 0x9126_7E8A);
 }
 
+/// The proved program crc_check owes the same values: the file `stdout` of its crate.
+#[test]
+fn the_expected_output_of_crc_check_is_the_published_values() {
+    let values = [
+        crc32(*b""),
+        crc32(*b"a"),
+        crc32(*b"123456789"),
+        crc32([0x00; 32]),
+        crc32([0xFF; 32]),
+        crc32(0..32),
+    ];
+    let lines: String = values.iter().map(|value| format!("{value:08x}\n")).collect();
+    assert_eq!(include_str!("../../crates/crc_check/stdout"), lines);
+}
+
 #[test]
 fn forcing_every_eighth() {
     let mut log = Log::fresh(100);

@@ -1,53 +1,54 @@
-// What a line shows: a refusal, an answer, the ops in the op buffer, the digests, the state.
+// What a line shows: a call's name and answer, the ops in the op buffer, the digests, words of the image, the state.
 // The contracts say, as those of output.rt, that the index stays inside the text buffer.
 use crate::digest;
+use crate::limited;
+use crate::numbers::FIELDS;
+use crate::numbers::NUMBERS;
 use crate::output::TEXT_SIZE;
 use crate::output::end_line;
 use crate::output::put_byte;
-use crate::output::put_field;
-use crate::output::put_fields;
 use crate::output::put_number;
+use crate::output::put_numbers;
 use crate::output::put_text;
-use drivelog::Answer;
-use drivelog::Entry;
-use drivelog::Refusal;
-use drivelog::State;
+use crate::output::put_word;
+use crate::said::Said;
 use drivelog::TABLE_SIZE;
-ghost use Prim.Native.Nat.{_≤_};
+ghost use Prim.Native.Nat.{_+_, _*_, _≤_};
+ghost use lib.ListN.{length};
 ghost use Rattle.replay.specs.Text.{Inside};
 
-// Puts a refusal's number and detail.
-pub fn put_refusal(out: &mut [u8; TEXT_SIZE], at: usize, r: Refusal) -> usize
-    requires { ⌜ Inside at ⌝ }
+// Begins a line with the name of a call, the word at its number, and its answer.
+pub fn put_answer(out: &mut [u8; TEXT_SIZE], number: u64, said: Said) -> usize
     ensures { λ r. ⌜ Inside r ⌝ }
 {
-    let next = put_text(out, at, b" refused");
-    let values = [drivelog::number_of(r), drivelog::detail_of(r)];
-    put_fields(out, next, &values)
+    let names =
+        b"- - - - - - - - - - format reserve copy complete force release releaseall takeup - - open next fetch";
+    let answers = b"ok kept putoff record end refused";
+    let numbers = said.numbers;
+    let named = put_word(out, 0, names, number);
+    let blank = put_byte(out, named, b' ');
+    let answered = put_word(out, blank, answers, said.word);
+    put_numbers(out, answered, &numbers, said.count)
 }
 
-// Puts the place of a new record.
-fn put_reserved(out: &mut [u8; TEXT_SIZE], at: usize, lsn: u64, pos: u64) -> usize
+// Puts the count of ops, and each op as it stands in the op buffer.
+pub fn put_ops(out: &mut [u8; TEXT_SIZE], at: usize, ops: &[u64], count: usize) -> usize
     requires { ⌜ Inside at ⌝ }
     ensures { λ r. ⌜ Inside r ⌝ }
 {
-    let next = put_text(out, at, b" ok");
-    let values = [lsn, pos];
-    put_fields(out, next, &values)
-}
-
-// Puts the answer of a writing call.
-pub fn put_answer(out: &mut [u8; TEXT_SIZE], at: usize, answer: Answer) -> usize
-    requires { ⌜ Inside at ⌝ }
-    ensures { λ r. ⌜ Inside r ⌝ }
-{
-    match answer {
-        Answer::Done => put_text(out, at, b" ok"),
-        Answer::Reserved(lsn, pos) => put_reserved(out, at, lsn, pos),
-        Answer::Durable => put_text(out, at, b" kept"),
-        Answer::Deferred => put_text(out, at, b" putoff"),
-        Answer::Refused(r) => put_refusal(out, at, r),
+    let orders = put_text(out, at, b" orders");
+    let mut next = put_number(out, orders, b' ', count as u64);
+    let end = ops.len() / 3;
+    let mut k: usize = 0;
+    while k < end {
+        if k == count {
+            return next;
+        }
+        let i = 3 * k;
+        next = put_op(out, next, ops[i], ops[i + 1], ops[i + 2]);
+        k += 1;
     }
+    next
 }
 
 // Puts one op: a store's word and value, or a flush's first word and count.
@@ -58,92 +59,55 @@ fn put_op(out: &mut [u8; TEXT_SIZE], at: usize, tag: u64, word: u64, value: u64)
     let letter = if tag == 1 { b's' } else { b'f' };
     let blank = put_byte(out, at, b' ');
     let next = put_byte(out, blank, letter);
-    let values = [word, value];
-    put_fields(out, next, &values)
+    let first = put_number(out, next, b' ', word);
+    put_number(out, first, b' ', value)
 }
 
-fn least(a: usize, b: usize) -> usize
-    ensures { λ r. ⌜ (r ≤ a) × (r ≤ b) ⌝ }
-{
-    if a < b { a } else { b }
-}
-
-// Puts the count of ops, and each op as it stands in the op buffer.
-pub fn put_ops(out: &mut [u8; TEXT_SIZE], at: usize, ops: &[u64], count: usize) -> usize
-    requires { ⌜ Inside at ⌝ }
-    ensures { λ r. ⌜ Inside r ⌝ }
-{
-    let orders = put_text(out, at, b" orders");
-    let mut next = put_field(out, orders, count as u64);
-    let end = least(count, ops.len() / 3);
-    let mut k: usize = 0;
-    while k < end {
-        let i = 3 * k;
-        next = put_op(out, next, ops[i], ops[i + 1], ops[i + 2]);
-        k += 1;
-    }
-    next
-}
-
-// Puts the digests of the image, the op buffer and the state.
-pub fn put_digests(
+// Puts the digests of the image, the op buffer and the state, and where there are four also the last, and ends the line.
+pub fn print_digests(
     out: &mut [u8; TEXT_SIZE],
     at: usize,
     image: &[u64],
     ops: &[u64],
-    s: State,
-) -> usize
+    numbers: &[u64; NUMBERS],
+    count: u64,
+    last: u64,
+)
     requires { ⌜ Inside at ⌝ }
-    ensures { λ r. ⌜ Inside r ⌝ }
 {
-    let next = put_text(out, at, b" =");
-    let values = [
+    let digests = [
         digest::of_words(image),
         digest::of_words(ops),
-        digest::of_state(s),
+        digest::of_words(numbers),
+        last,
     ];
-    put_fields(out, next, &values)
+    let next = put_text(out, at, b" =");
+    let end = put_numbers(out, next, &digests, count);
+    end_line(out, end);
 }
 
-// Puts a table entry: its index, its three numbers and its stage's.
-fn put_entry(out: &mut [u8; TEXT_SIZE], at: usize, i: usize, e: Entry) -> usize
-    requires { ⌜ Inside at ⌝ }
+// Puts the numbers of a table entry unless it is free: its index, its three numbers and its stage's.
+fn put_entry(out: &mut [u8; TEXT_SIZE], at: usize, i: usize, numbers: &[u64]) -> usize
+    requires { ⌜ Inside at × (8 + 4 * i + 4 ≤ length (now numbers)) ⌝ }
     ensures { λ r. ⌜ Inside r ⌝ }
 {
-    let stage = e.stage;
-    let values = [
-        e.pos as u64,
-        e.length as u64,
-        e.kind as u64,
-        state::stage_number(stage),
-    ];
-    let open = put_text(out, at, b" [");
-    let index = put_number(out, open, i as u64);
-    let next = put_fields(out, index, &values);
+    let k = FIELDS + 4 * i;
+    if numbers[k + 3] == 0 {
+        return at;
+    }
+    let blank = put_byte(out, at, b' ');
+    let index = put_number(out, blank, b'[', i as u64);
+    let next = put_numbers(out, index, &numbers[k..], 4);
     put_byte(out, next, b']')
 }
 
-// Puts a table entry unless it is free.
-fn put_live(out: &mut [u8; TEXT_SIZE], at: usize, i: usize, e: Entry) -> usize
-    requires { ⌜ Inside at ⌝ }
-    ensures { λ r. ⌜ Inside r ⌝ }
-{
-    let stage = e.stage;
-    if state::is_free(stage) {
-        return at;
-    }
-    put_entry(out, at, i, e)
-}
-
 // Prints the state: its eight fields, and the table entries that are not free.
-pub fn print_state(out: &mut [u8; TEXT_SIZE], s: State) {
-    let fields = digest::fields_of(s);
+pub fn print_state(out: &mut [u8; TEXT_SIZE], numbers: &[u64; NUMBERS]) {
     let name = put_text(out, 0, b"state");
-    let mut at = put_fields(out, name, &fields);
+    let mut at = put_numbers(out, name, numbers, FIELDS as u64);
     let mut i: usize = 0;
     while i < TABLE_SIZE {
-        let e = s.table[i];
-        at = put_live(out, at, i, e);
+        at = put_entry(out, at, i, numbers);
         i += 1;
     }
     end_line(out, at);
@@ -151,18 +115,8 @@ pub fn print_state(out: &mut [u8; TEXT_SIZE], s: State) {
 
 // Prints `count` words of the image from `first` on, as far as they exist.
 pub fn print_words(out: &mut [u8; TEXT_SIZE], image: &[u64], first: u64, count: u64) {
-    let at = put_text(out, 0, b"words");
-    if image.len() as u64 <= first {
-        end_line(out, at);
-        return;
-    }
-    let start = first as usize;
-    let left = image.len() - start;
-    if (left as u64) < count {
-        let end = put_fields(out, at, &image[start..]);
-        end_line(out, end);
-        return;
-    }
-    let end = put_fields(out, at, &image[start..start + count as usize]);
+    let start = limited(first, image.len());
+    let name = put_text(out, 0, b"words");
+    let end = put_numbers(out, name, &image[start..], count);
     end_line(out, end);
 }

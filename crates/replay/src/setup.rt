@@ -1,34 +1,29 @@
-// The commands that set up what the calls work on: words of an array, state fields, table entries.
-use crate::input::Args;
-use drivelog::Entry;
-use drivelog::Stage;
-use drivelog::State;
+// The commands that set up what the calls work on: words of the image and the op buffer, the state, the cursor.
+use crate::numbers::FIELDS;
+use crate::numbers::NUMBERS;
+use crate::numbers::put_entry;
 use drivelog::TABLE_SIZE;
-use state::fresh_table;
+ghost use Prim.Native.Nat.{_≤_};
+ghost use lib.ListN.{length};
 
-// The state at the start of a script: all zero.
-pub fn zero_state() -> State {
-    let table = fresh_table();
-    State {
-        area: 0,
-        head_pos: 0,
-        head_lsn: 0,
-        next_pos: 0,
-        next_lsn: 0,
-        committed_lsn: 0,
-        active_copy: 0,
-        epoch: 0,
-        table,
+// If a command fills an array, its first `count` words become `value`, or all of them where there are fewer. Answers how many
+// words are used: those, else as many as before.
+pub fn fill_words(words: &mut [u64], used: usize, fills: bool, count: u64, value: u64) -> usize
+    requires { ⌜ used ≤ length (now words) ⌝ }
+    ensures { λ r. ⌜ r ≤ length (now (words .entry)) ⌝ }
+{
+    if !fills {
+        return used;
     }
-}
-
-// Each word becomes `value`.
-pub fn fill_words(words: &mut [u64], value: u64) {
     let mut i: usize = 0;
     while i < words.len() {
+        if i as u64 == count {
+            return i;
+        }
         words[i] = value;
         i += 1;
     }
+    i
 }
 
 // Each byte becomes `value`.
@@ -41,51 +36,55 @@ pub fn fill_bytes(bytes: &mut [u8], value: u8) {
 }
 
 // One word becomes `value`, if it is there.
-pub fn poke(words: &mut [u64], index: u64, value: u64) {
+fn poke(words: &mut [u64], index: u64, value: u64) {
     if index < words.len() as u64 {
         words[index as usize] = value;
     }
 }
 
-// The state with one of its eight fields changed.
-pub fn with_field(s: State, field: u64, value: u64) -> State {
-    let mut t = s;
-    match field {
-        0 => t.area = value,
-        1 => t.head_pos = value,
-        2 => t.head_lsn = value,
-        3 => t.next_pos = value,
-        4 => t.next_lsn = value,
-        5 => t.committed_lsn = value,
-        6 => t.active_copy = value,
-        7 => t.epoch = value,
-        _ => {}
-    }
-    t
-}
-
-// The stage of a number; any that is none's is free.
-fn stage_of(number: u64) -> Stage {
-    match number {
-        1 => Stage::Open,
-        2 => Stage::Complete,
-        3 => Stage::Committed,
-        4 => Stage::Released,
-        _ => Stage::Free,
+// One of the eight fields of the state becomes `value`.
+fn set_field(numbers: &mut [u64; NUMBERS], field: u64, value: u64) {
+    if field < FIELDS as u64 {
+        numbers[field as usize] = value;
     }
 }
 
-// The state with one table entry changed.
-pub fn with_entry(s: State, args: Args) -> State {
-    let i = (args.first % TABLE_SIZE as u64) as usize;
-    let stage = stage_of(args.fifth);
-    let e = Entry {
-        pos: (args.second % 65536) as u16,
-        length: (args.third % 65536) as u16,
-        kind: (args.fourth % 65536) as u16,
+// A table entry becomes what the arguments say. A number that is no stage's is free.
+fn set_entry(numbers: &mut [u64; NUMBERS], args: &[u64; 5]) {
+    let i = (args[0] % TABLE_SIZE as u64) as usize;
+    let stage = if args[4] < 5 { args[4] } else { 0 };
+    put_entry(
+        numbers,
+        i,
+        args[1] % 65536,
+        args[2] % 65536,
+        args[3] % 65536,
         stage,
-    };
-    let mut t = s;
-    t.table[i] = e;
-    t
+    );
+}
+
+// The commands 2 and 4 to 6: a word of the image, a state field, a table entry, the cursor.
+pub fn set(
+    number: u64,
+    args: &[u64; 5],
+    numbers: &mut [u64; NUMBERS],
+    cursor: &mut [u64; 4],
+    image: &mut [u64],
+) {
+    if number == 2 {
+        poke(image, args[0], args[1]);
+        return;
+    }
+    if number == 4 {
+        set_field(numbers, args[0], args[1]);
+    }
+    if number == 5 {
+        set_entry(numbers, args);
+    }
+    if number == 6 {
+        cursor[0] = args[0];
+        cursor[1] = args[1];
+        cursor[2] = args[2];
+        cursor[3] = args[3];
+    }
 }

@@ -8,10 +8,10 @@ use Rattle.replay.proofs.run.Statement.{statement}
 use Rattle.replay.proofs.run.Tie as tie
 
 abbrev Inv-loop : tie.InvT-loop
-Inv-loop image₀ ops₀ bytes₀ out₀ session₀ turns₀ image ops bytes out session turns = (session .«image_words» ≤ length image) × (session .«ops_words» ≤ length ops) × (length image ≡ length image₀) × (length ops ≡ length ops₀) × (length bytes ≡ length bytes₀)
+Inv-loop image₀ ops₀ bytes₀ out₀ numbers₀ cursor₀ args₀ n₀ t₀ turns₀ image ops bytes out numbers cursor args n t turns = (n ≤ length image) × (t ≤ length ops) × (length image ≡ length image₀) × (length ops ≡ length ops₀) × (length bytes ≡ length bytes₀)
 
 abbrev μ-loop : tie.MeasureT-loop
-μ-loop image₀ ops₀ bytes₀ out₀ session₀ turns₀ image ops bytes out session turns = turns
+μ-loop image₀ ops₀ bytes₀ out₀ numbers₀ cursor₀ args₀ n₀ t₀ turns₀ image ops bytes out numbers cursor args n t turns = turns
 
 pub run-spec : {M : Type 1} → statement M
 run-spec =
@@ -19,13 +19,19 @@ run-spec =
     (tie.spec
     Inv-loop
     μ-loop
-    (λ c. λ κs. search needs)
     (λ c. search needs)
     (λ c. λ κs. search needs)
     (λ c. search needs)
     (λ c. search needs)
     (λ c. search needs)
     (λ c. search needs)
+    (λ c. search needs)
+    (λ c. search needs)
+    (λ c. λ κs. search needs)
+    (λ c. search needs)
+    (λ c. search needs)
+    (λ c. λ κs. search needs)
+    (λ c. λ κs. search needs)
     (λ c. search needs)
     (λ c. search needs)
     (λ c. search needs)

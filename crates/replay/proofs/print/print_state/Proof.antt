@@ -1,4 +1,4 @@
--- `replay::print::print_state` is safe and ends: the index stays inside the buffer.
+-- `replay::print::print_state` is safe and ends: the index stays inside the text buffer, and the numbers have an entry for each turn.
 -- Assumes nothing.
 use borrow.Author.Needs.{needs}
 use Prim.Native.Nat.{_-_, _≤_}
@@ -7,10 +7,10 @@ use Rattle.replay.proofs.print.print_state.Statement.{statement}
 use Rattle.replay.proofs.print.print_state.Tie as tie
 
 abbrev Inv-loop : tie.InvT-loop
-Inv-loop out₀ s name at₀ i₀ out at i = (i ≤ 64) × Inside at
+Inv-loop out₀ numbers name at₀ i₀ out at i = (i ≤ 64) × Inside at
 
 abbrev μ-loop : tie.MeasureT-loop
-μ-loop out₀ s name at₀ i₀ out at i = 64 - i
+μ-loop out₀ numbers name at₀ i₀ out at i = 64 - i
 
 pub print-state-spec : {M : Type 1} → statement M
 print-state-spec =
@@ -18,13 +18,9 @@ print-state-spec =
     (tie.spec
     Inv-loop
     μ-loop
-    (λ c. λ κs. search needs)
     (λ c. search needs)
     (λ c. λ κs. search needs)
-    (λ c. search needs)
     (λ c. λ κs. search needs)
-    (λ c. search needs)
-    (λ c. search needs)
     (λ c. search needs)
     (λ c. λ κs. search needs)
     (λ c. search needs)

@@ -1,21 +1,18 @@
--- `replay::setup::fill_words` is safe and ends: the slice keeps its length.
+-- `replay::setup::fill_words` is safe and ends. The measure is what is left of the words.
 -- Assumes nothing.
 use borrow.Author.Needs.{needs}
+use native.Mathlib.Omega.{arith}
 use Prim.Native.Nat.{_-_, _≤_}
 use mathlib.Core.Path.{_≡_}
-use native.Mathlib.Omega.{arith}
 use lib.ListN.{length, length-set}
 use Rattle.replay.proofs.setup.fill_words.Statement.{statement}
 use Rattle.replay.proofs.setup.fill_words.Tie as tie
 
 abbrev Inv-loop : tie.InvT-loop
-Inv-loop words₀ value i₀ words i = (i ≤ length words) × (length words ≡ length words₀)
+Inv-loop words₀ used fills count value i₀ words i = (i ≤ length words) × (length words ≡ length words₀)
 
 abbrev μ-loop : tie.MeasureT-loop
-μ-loop words₀ value i₀ words i = length words - i
-
-loop-less : tie.Need-loop-less Inv-loop μ-loop
-loop-less c = simp length-set (omega arith)
+μ-loop words₀ used fills count value i₀ words i = length words₀ - i
 
 loop-again : tie.Need-loop-again Inv-loop μ-loop
 loop-again c = simp length-set (omega arith)
@@ -30,7 +27,10 @@ fill-words-spec =
     (λ c. search needs)
     (λ c. search needs)
     (λ c. search needs)
-    loop-less
+    (λ c. search needs)
+    (λ c. search needs)
+    (λ c. search needs)
+    (λ c. search needs)
     loop-again
     (λ c. search needs)
     (λ c. search needs))

@@ -1,17 +1,18 @@
--- `replay::input::read_payload` is safe: the whole words lie inside the buffer.
+-- `replay::input::read_bytes` is safe: what is read lies inside the buffer.
 -- Assumes nothing.
 use borrow.Author.Needs.{needs}
 use Rattle.io.proofs.Counting.{front}
-use Rattle.replay.proofs.input.read_payload.Statement.{statement}
-use Rattle.replay.proofs.input.read_payload.Tie as tie
+use Rattle.replay.proofs.input.read_bytes.Statement.{statement}
+use Rattle.replay.proofs.input.read_bytes.Tie as tie
 
 slice-aggregate-read-full : tie.Need-slice-aggregate-read-full
 slice-aggregate-read-full c = front _ _ (search needs)
 
-pub read-payload-spec : {M : Type 1} → statement M
-read-payload-spec =
+pub read-bytes-spec : {M : Type 1} → statement M
+read-bytes-spec =
     tie.close
     (tie.spec
+    (λ c. search needs)
     (λ c. search needs)
     (λ c. search needs)
     (λ c. search needs)

@@ -1,0 +1,104 @@
+// What a call answered, as a line says it: a word and numbers.
+use drivelog::Answer;
+use drivelog::Cursor;
+use drivelog::Fetched;
+use drivelog::Opened;
+use drivelog::Refusal;
+use drivelog::Step;
+
+// The words of answers, each by its place in the text of `print::put_answer`.
+const OK: u64 = 0;
+
+const KEPT: u64 = 1;
+
+const PUT_OFF: u64 = 2;
+
+const RECORD: u64 = 3;
+
+const END: u64 = 4;
+
+pub const REFUSED: u64 = 5;
+
+// An answer's word, and how many of the numbers stand behind it.
+pub struct Said {
+    pub word: u64,
+    pub count: u64,
+    pub numbers: [u64; 5],
+}
+
+// An answer with up to two numbers.
+fn short(word: u64, count: u64, first: u64, second: u64) -> Said {
+    Said {
+        word,
+        count,
+        numbers: [first, second, 0, 0, 0],
+    }
+}
+
+// A refusal: its number and its detail.
+fn refused(why: Refusal) -> Said {
+    short(
+        REFUSED,
+        2,
+        drivelog::number_of(why),
+        drivelog::detail_of(why),
+    )
+}
+
+// The answer of a writing call.
+pub fn of_answer(answer: Answer) -> Said {
+    match answer {
+        Answer::Done => short(OK, 0, 0, 0),
+        Answer::Reserved(lsn, pos) => short(OK, 2, lsn, pos),
+        Answer::Durable => short(KEPT, 0, 0, 0),
+        Answer::Deferred => short(PUT_OFF, 0, 0, 0),
+        Answer::Refused(why) => refused(why),
+    }
+}
+
+// Puts a cursor's numbers into the one that replay keeps.
+fn save_cursor(cursor: &mut [u64; 4], c: Cursor) {
+    cursor[0] = c.pos;
+    cursor[1] = c.lsn;
+    cursor[2] = c.used;
+    cursor[3] = c.count;
+}
+
+// The answer of open. Its cursor is kept.
+pub fn of_opened(opened: Opened, cursor: &mut [u64; 4]) -> Said {
+    match opened {
+        Opened::At(c) => {
+            save_cursor(cursor, c);
+            Said {
+                word: OK,
+                count: 4,
+                numbers: [c.pos, c.lsn, c.used, c.count, 0],
+            }
+        }
+        Opened::Refused(why) => refused(why),
+    }
+}
+
+// The answer of next. The cursor behind a record is kept.
+pub fn of_step(step: Step, cursor: &mut [u64; 4]) -> Said {
+    match step {
+        Step::Record(f, behind) => {
+            save_cursor(cursor, behind);
+            Said {
+                word: RECORD,
+                count: 5,
+                numbers: [f.pos, f.lsn, f.kind, f.length, f.mark],
+            }
+        }
+        Step::End(lsn) => short(END, 1, lsn, 0),
+        Step::Refused(why) => refused(why),
+    }
+}
+
+// The answer of fetch.
+pub fn of_fetched(fetched: Fetched) -> Said {
+    match fetched {
+        Fetched::Done => short(OK, 0, 0, 0),
+        Fetched::Refused(why) => refused(why),
+    }
+}

@@ -1,0 +1,77 @@
+//! The stored script of the proved program replay, and the lines that the program owes: its files `stdin` and `stdout`.
+
+use reference::replay::replay;
+use reference::stored_script::stored_script;
+
+const STDIN: &[u8] = include_bytes!("../../crates/replay/stdin");
+const STDOUT: &str = include_str!("../../crates/replay/stdout");
+
+#[test]
+fn the_stored_script_is_the_one_that_the_reference_writes() {
+    assert!(stored_script() == STDIN, "reference stored-script > crates/replay/stdin");
+}
+
+#[test]
+fn the_stored_lines_are_the_reference_s_answers() {
+    let mut lines = Vec::new();
+    replay(STDIN, &mut lines, None).unwrap();
+    assert_eq!(String::from_utf8(lines).unwrap(), STDOUT);
+}
+
+/// Each row of the bench sheet that is about calls stands in the lines, with document 01's numbers.
+#[test]
+fn the_stored_lines_have_the_rows_of_the_bench_sheet() {
+    let rows = [
+        // Sizes 3, 4, 4, 5, 131, by the places of six records; a copy's first word.
+        "format ok orders 11 s 8 4294967336 ",
+        "reserve ok 1 0 ",
+        "reserve ok 2 3 ",
+        "reserve ok 3 7 ",
+        "reserve ok 4 11 ",
+        "reserve ok 5 16 ",
+        "reserve ok 6 147 ",
+        // Format.
+        "format ok orders 11 ",
+        "format refused 15 33 ",
+        "format refused 1 0 ",
+        // C = 16.
+        "format ok ",
+        "reserve refused 10 0 ",
+        "reserve ok 1 0 ",
+        "format ok ",
+        "reserve ok 1 0 orders 5 s 24 73014444035 s 25 1 s 26 0 s 27 0 s 28 0 ",
+        "copy ok orders 1 s 27 4407873 ",
+        "complete ok ",
+        "force putoff orders 0 ",
+        "force kept orders 3 f 24 5 s 24 281547991154691 f 24 1 ",
+        "words 281547991154691 ",
+        "format ok ",
+        "reserve ok 1 0 ",
+        "reserve ok 2 4 ",
+        "complete ok ",
+        "force refused 11 1 ",
+        "format ok ",
+        "reserve ok 1 0 ",
+        "complete ok ",
+        "force kept ",
+        "release ok orders 10 ",
+        "reserve ok 2 8 orders 13 ",
+        "complete ok ",
+        "force kept orders 4 f 32 8 f 24 5 ",
+        "format ok ",
+        "reserve ok 1 0 ",
+        "copy ok orders 2 s ",
+        "copy refused 7 0 ",
+        "copy ok orders 0 ",
+    ];
+    let lines: Vec<&str> = STDOUT.lines().collect();
+    let first = lines
+        .windows(rows.len())
+        .position(|part| part.iter().zip(rows).all(|(line, row)| line.starts_with(row)));
+    let behind = first.expect("the rows stand one behind another") + rows.len();
+    // 1 to 9 complete: the format, nine reserves, nine completes, the two forces, the state.
+    let forces = behind + 1 + 9 + 9;
+    assert!(lines[forces].starts_with("force putoff orders 0 "));
+    assert!(lines[forces + 1].starts_with("force kept orders 17 f 24 33 s 24 "));
+    assert!(lines[forces + 2].starts_with("state 100 0 1 36 10 8 "));
+}
