@@ -14,14 +14,5 @@ abbrev μ-loop : tie.MeasureT-loop
 pub records-as-written-spec : {M : Type 1} → statement M
 records-as-written-spec =
     tie.close
-    (tie.spec
-    Inv-loop
-    μ-loop
-    (λ c. λ κs. search needs)
-    (λ c. search needs)
-    (λ c. λ κs. search needs)
-    (λ c. search needs)
-    (λ c. search needs)
-    (λ c. search needs)
-    (λ c. search needs)
-    (λ c. search needs))
+    (tie.spec Inv-loop μ-loop (λ c. λ κs. search needs) (λ c. search needs) (λ c. λ κs. search needs)
+    (λ c. search needs) (λ c. search needs) (λ c. search needs) (λ c. search needs) (λ c. search needs))

@@ -40,22 +40,7 @@ returns c = appended-as (c .before .loop .inv .0) (ap hexText (take-all (c .befo
 pub put-hex-spec : {M : Type 1} → statement M
 put-hex-spec =
     tie.close
-    (tie.spec
-    Inv-loop
-    μ-loop
-    loop-holds
-    (λ c. omega arith)
-    (λ c. omega arith)
-    (λ c. omega arith)
-    hex-digit-requires
-    (λ c. omega arith)
-    (λ c. λ κs. omega arith)
-    (λ c. omega arith)
-    slice-write-out-2
-    (λ c. omega arith)
-    (λ c. omega arith)
-    loop-again
-    (λ c. omega arith)
-    (λ c. omega arith)
-    (λ c. omega arith)
+    (tie.spec Inv-loop μ-loop loop-holds (λ c. omega arith) (λ c. omega arith) (λ c. omega arith)
+    hex-digit-requires (λ c. omega arith) (λ c. λ κs. omega arith) (λ c. omega arith) slice-write-out-2
+    (λ c. omega arith) (λ c. omega arith) loop-again (λ c. omega arith) (λ c. omega arith) (λ c. omega arith)
     returns)

@@ -11,15 +11,6 @@ slice-aggregate-digest-of c = front _ _ (search needs)
 pub job-on-spec : {M : Type 1} → statement M
 job-on-spec =
     tie.close
-    (tie.spec
-    (λ c. λ κs. search needs)
-    (λ c. λ κs. search needs)
-    (λ c. λ κs. search needs)
-    (λ c. λ κs. search needs)
-    (λ c. search needs)
-    slice-aggregate-digest-of
-    (λ c. λ κs. search needs)
-    (λ c. search needs)
-    (λ c. search needs)
-    (λ c. search needs)
-    (λ c. search needs))
+    (tie.spec (λ c. λ κs. search needs) (λ c. λ κs. search needs) (λ c. λ κs. search needs)
+    (λ c. λ κs. search needs) (λ c. search needs) slice-aggregate-digest-of (λ c. λ κs. search needs)
+    (λ c. search needs) (λ c. search needs) (λ c. search needs) (λ c. search needs))

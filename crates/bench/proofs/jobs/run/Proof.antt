@@ -26,21 +26,7 @@ slice-aggregate-job-on-2 c = front _ _ (search needs)
 pub run-spec : {M : Type 1} → statement M
 run-spec =
     tie.close
-    (tie.spec
-    (λ c. λ κs. search needs)
-    (λ c. λ κs. search needs)
-    slice-aggregate-crc-job
-    (λ c. search needs)
-    slice-aggregate-crc-job-2
-    crc-job-requires
-    (λ c. search needs)
-    (λ c. search needs)
-    (λ c. λ κs. search needs)
-    (λ c. search needs)
-    slice-aggregate-job-on
-    slice-aggregate-job-on-2
-    (λ c. λ κs. search needs)
-    (λ c. search needs)
-    (λ c. search needs)
-    (λ c. search needs)
-    (λ c. search needs))
+    (tie.spec (λ c. λ κs. search needs) (λ c. λ κs. search needs) slice-aggregate-crc-job (λ c. search needs)
+    slice-aggregate-crc-job-2 crc-job-requires (λ c. search needs) (λ c. search needs) (λ c. λ κs. search needs)
+    (λ c. search needs) slice-aggregate-job-on slice-aggregate-job-on-2 (λ c. λ κs. search needs)
+    (λ c. search needs) (λ c. search needs) (λ c. search needs) (λ c. search needs))

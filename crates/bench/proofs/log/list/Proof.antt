@@ -1,7 +1,6 @@
 -- `bench::log::list` is safe, and the text ends within the buffer. Cites AnswerLaws.antt of listing.
 use borrow.Author.Needs.{needs}
 use native.Mathlib.Omega.{arith}
-use mathlib.Core.Path.{_∙_, sym}
 use Rattle.listing.proofs.AnswerLaws.{listed-within}
 use Rattle.bench.proofs.log.list.Statement.{statement}
 use Rattle.bench.proofs.log.list.Tie as tie
@@ -12,11 +11,5 @@ returns c = let within = listed-within (c .before .before .before .before .befor
 pub list-spec : {M : Type 1} → statement M
 list-spec =
     tie.close
-    (tie.spec
-    (λ c. λ κs. search needs)
-    (λ c. search needs)
-    (λ c. search needs)
-    (λ c. search needs)
-    returns
-    (λ c. search needs)
-    (λ c. search needs))
+    (tie.spec (λ c. λ κs. search needs) (λ c. search needs) (λ c. search needs) (λ c. search needs) returns
+    (λ c. search needs) (λ c. search needs))

@@ -17,16 +17,6 @@ slice-aggregate-text-2 c = sym (length-take-le _ _ (listed-within (c .before .be
 pub listing-spec : {M : Type 1} → statement M
 listing-spec =
     tie.close
-    (tie.spec
-    (λ c. search needs)
-    (λ c. λ κs. search needs)
-    (λ c. λ κs. search needs)
-    (λ c. search needs)
-    (λ c. λ κs. search needs)
-    (λ c. search needs)
-    array-share-prefix-room
-    slice-aggregate-text-2
-    (λ c. λ κs. search needs)
-    (λ c. search needs)
-    (λ c. search needs)
-    (λ c. search needs))
+    (tie.spec (λ c. search needs) (λ c. λ κs. search needs) (λ c. λ κs. search needs) (λ c. search needs)
+    (λ c. λ κs. search needs) (λ c. search needs) array-share-prefix-room slice-aggregate-text-2
+    (λ c. λ κs. search needs) (λ c. search needs) (λ c. search needs) (λ c. search needs))
