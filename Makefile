@@ -1,13 +1,17 @@
 # demo: the log in a minute, with a power failure. test: the gate. prove: every function and theorem, with no program run.
-# list: the records of a sample module. compare, crash: the built programs against the reference for longer, as `make compare
-# SCRIPTS=1000`, `make crash SECONDS=600`. bench: how long the calls take beside plain Rust, zlib and libpmemlog. speed: how long
-# loglist takes for a full image, beside one in plain Rust. docs/TESTING.md says what the tests show, docs/SPEED.md what the times say.
-.PHONY: demo list prove test compare crash speed bench bench-c programs
+# list: the records of a sample module. lib: the reading calls for C, proved, as target/lib/libdrivelog.a (include/drivelog.h).
+# compare, calls, crash: the built programs and the calls for C against the reference for longer, as `make compare SCRIPTS=1000`,
+# `make calls SCRIPTS=1000`, `make crash SECONDS=600`. bench: how long the calls take beside plain Rust, zlib and libpmemlog. speed: how
+# long loglist takes for a full image, beside one in plain Rust. docs/TESTING.md says what the tests show, docs/SPEED.md what the times
+# say.
+.PHONY: demo list lib prove test compare calls crash speed bench bench-c programs
 
 SCRIPTS ?= 1000
 SECONDS ?= 60
 SEED ?= 1
 reference = reference/target/release/reference
+# The crate whose functions are the calls for C.
+c_crate = query
 
 # Says crate by crate how far the proofs are; what the check says is shown only if it fails.
 demo:
@@ -17,6 +21,11 @@ demo:
 list:
 	rt check loglist
 	target/bin/loglist < crates/loglist/stdin
+
+lib:
+	rt staticlib $(c_crate)
+	mkdir -p target/lib
+	cp target/staticlib/lib$(c_crate).a target/lib/libdrivelog.a
 
 prove:
 	rt prove
@@ -31,22 +40,29 @@ programs:
 compare: programs
 	$(reference) compare target/bin/replay target/bin/loglist $(SEED) $(SCRIPTS)
 
+calls: lib
+	cd reference && cargo build --release --offline --quiet
+	tests/c/run $(SEED) $(SCRIPTS)
+
 crash: programs
 	$(reference) crash $(SECONDS) --program target/bin/replay --seed $(SEED)
 
 speed: programs
 	$(reference) time target/bin/loglist reference/target/release/plain_loglist
 
-# Each case by turns, as `make bench ROUNDS=101`. Without libpmemlog its line says so.
+# Each case by turns, as `make lib bench ROUNDS=101`. Where libpmemlog or the archive of `make lib` is not there, a line says so.
 ROUNDS ?= 31
 bench: programs bench-c
 	rt check bench
 	cd reference && cargo build --profile plain --offline --quiet --bin plain_bench
-	$(reference) bench target/bin/bench reference/target/plain/plain_bench target/bench/crc target/bench/pmemlog --rounds $(ROUNDS)
+	$(reference) bench target/bin/bench reference/target/plain/plain_bench target/bench/crc target/bench/pmemlog \
+	  --calls target/bench/calls --rounds $(ROUNDS)
 
 bench-c:
 	mkdir -p target/bench
 	gcc -O2 -Wall -Wextra -o target/bench/crc tests/bench/crc.c -lz
-	rm -f target/bench/pmemlog
+	rm -f target/bench/calls target/bench/pmemlog
+	if [ -e target/lib/libdrivelog.a ]; then \
+	  gcc -O2 -Wall -Wextra -Iinclude -o target/bench/calls tests/bench/calls.c target/lib/libdrivelog.a -lz; fi
 	if pkg-config --exists libpmemlog; then \
 	  gcc -O2 -Wall -Wextra -o target/bench/pmemlog tests/bench/pmemlog.c $$(pkg-config --cflags --libs libpmemlog); fi

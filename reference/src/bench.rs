@@ -2,18 +2,27 @@
 //!
 //! Each program reads five words (job, bytes, live, count, words) and prints the microseconds of CPU time that its timed part took and
 //! a digest of what it left. The programs of a case take turns, round by round, and have to leave the same; what counts is the median
-//! of each.
+//! of each. Jobs of the calls for C have the bytes of a full image behind the five words.
 
+use crate::samples::full_image;
 use std::collections::BTreeMap;
 use std::fmt;
 use std::io::{self, Write};
 use std::path::Path;
 use std::process::{Command, Stdio};
+use std::sync::OnceLock;
 
 const APPEND: u64 = 1;
 const CRC: u64 = 2;
 const RECOVER: u64 = 3;
 const LIST: u64 = 4;
+const COUNT_RECORDS: u64 = 5;
+const ONE_RECORD: u64 = 6;
+const ALL_RECORDS: u64 = 7;
+/// Release of the head, plus the number of released records behind it.
+const RELEASE: u64 = 1000;
+/// The same with an LSN that is not live: refused right behind the soundness test.
+const NOT_LIVE: u64 = 2000;
 
 /// Words of the largest image.
 const LARGEST: u64 = 8_192;
@@ -28,8 +37,9 @@ pub struct Programs<'a> {
     pub proved: &'a Path,
     pub plain: &'a Path,
     pub crc: &'a Path,
-    /// It need not be there.
+    /// These two need not be there.
     pub pmemlog: Option<&'a Path>,
+    pub calls: Option<&'a Path>,
 }
 
 pub enum Failure {
@@ -60,8 +70,12 @@ impl<'a> Program<'a> {
     /// The microseconds that it took and its digest.
     fn run(&self, case: Case, count: u64) -> io::Result<(u64, u64)> {
         let Case { job, bytes, live, words } = case;
-        let input: Vec<u8> =
+        let mut input: Vec<u8> =
             [job, bytes, live, count, words].into_iter().flat_map(u64::to_le_bytes).collect();
+        if job >= COUNT_RECORDS {
+            static IMAGE: OnceLock<Vec<u8>> = OnceLock::new();
+            input.extend_from_slice(IMAGE.get_or_init(full_image));
+        }
         let name = self.path.display();
         let mut child = Command::new(self.path)
             .args(self.args)
@@ -96,7 +110,12 @@ impl Case {
             APPEND => "append",
             CRC => "crc",
             RECOVER => "recover",
-            _ => "list",
+            LIST => "list",
+            COUNT_RECORDS => "the number of records",
+            ONE_RECORD => "kind, LSN and payload of one record",
+            ALL_RECORDS => "number, then kind, LSN and payload of all",
+            RELEASE..NOT_LIVE => "release",
+            _ => "release of no live LSN",
         }
     }
 }
@@ -146,6 +165,15 @@ pub fn same_work(proved: &Path, plain: &Path) -> Result<usize, Failure> {
         for bytes in [8, 63, 64, 991] {
             for live in [0, 8, 33, 60] {
                 one_round(Case { job, bytes, live, words: LARGEST }, &pair, 100)?;
+                jobs += 1;
+            }
+        }
+    }
+    for job in [RELEASE, NOT_LIVE] {
+        for released in [0, 1, 8, 60] {
+            for live in [released + 1, released + 2, 62] {
+                let case = Case { job: job + released, bytes: 8, live, words: LARGEST };
+                one_round(case, &pair, 100)?;
                 jobs += 1;
             }
         }
@@ -202,19 +230,40 @@ pub fn bench(programs: &Programs, rounds: usize, out: &mut impl Write) -> Result
         .into_iter()
         .chain([0, 16, 32, 48, 60].map(|live| append(64, live, LARGEST)))
         .collect();
+    // The live records are as many whatever k is; then k is 0, with more and more live records behind the new head.
+    let release_cases: Vec<Case> = [(0, 62), (8, 62), (60, 62), (0, 2), (0, 30)]
+        .into_iter()
+        .flat_map(|(released, live)| {
+            [RELEASE, NOT_LIVE].map(|job| Case {
+                job: job + released,
+                bytes: 8,
+                live,
+                words: LARGEST,
+            })
+        })
+        .collect();
+
+    let c_calls = [COUNT_RECORDS, ONE_RECORD, ALL_RECORDS].map(|job| Case { job, ..full_image[0] });
 
     let proved = Program::new(programs.proved);
-    let pair = [proved, Program::new(programs.plain)];
+    let plain = Program::new(programs.plain);
+    let pair = [proved, plain];
     let crc = Program::new(programs.crc);
     let checks = [proved, Program { args: &["zlib"], ..crc }, Program { args: &["table"], ..crc }];
     let mut cases: Vec<(Case, &[Program])> = Vec::new();
-    for case in
-        [&appends[..], &crcs, &full_image, &scan_growth, &append_growth].into_iter().flatten()
+    for case in [&appends[..], &crcs, &full_image, &scan_growth, &append_growth, &release_cases]
+        .into_iter()
+        .flatten()
     {
         // Some are in two tables.
         if !cases.iter().any(|(other, _)| other == case) {
             cases.push((*case, if case.job == CRC { &checks } else { &pair }));
         }
+    }
+    let calls = programs.calls.filter(|path| path.exists());
+    let calls_and_plain = calls.map(|path| [Program::new(path), plain]);
+    if let Some(programs) = &calls_and_plain {
+        cases.extend(c_calls.iter().map(|case| (*case, &programs[..])));
     }
     let medians = medians(&cases, rounds)?;
     let times: Times = cases.iter().map(|(case, _)| *case).zip(medians).collect();
@@ -224,6 +273,13 @@ pub fn bench(programs: &Programs, rounds: usize, out: &mut impl Write) -> Result
     print_full_image(&full_image, &times, out)?;
     print_scan_growth(&scan_growth, &times, out)?;
     print_append_growth(&append_growth, &times, out)?;
+    print_releases(&release_cases, &times, out)?;
+    if calls.is_some() {
+        print_c_calls(&c_calls, &times, out)?;
+    } else {
+        let built = "it is built where target/lib/libdrivelog.a is, which `make lib` writes";
+        skipped("the calls for C", programs.calls, built, out)?;
+    }
     pmemlog(programs.pmemlog, rounds, out)
 }
 
@@ -315,16 +371,63 @@ fn print_append_growth(cases: &[Case], times: &Times, out: &mut impl Write) -> R
     table.print(out)
 }
 
+/// The cases stand in pairs: the release, and the one that is refused behind the soundness test.
+fn print_releases(cases: &[Case], times: &Times, out: &mut impl Write) -> Result<(), Failure> {
+    let mut table = Table::new(
+        "Release of the head with k released records behind it; what is left without the soundness test.",
+        &["k", "live", "proved ns", "refused ns", "left", "plain Rust ns", "refused ns", "left"],
+    );
+    for pair in cases.chunks_exact(2) {
+        let (granted, refused) = (&times[&pair[0]], &times[&pair[1]]);
+        let mut row = vec![grouped(pair[0].job % RELEASE), grouped(pair[0].live)];
+        for (granted, refused) in granted.iter().zip(refused) {
+            row.extend([ns(*granted), ns(*refused), ns(granted - refused)]);
+        }
+        table.row(row);
+    }
+    table.print(out)
+}
+
+fn print_c_calls(cases: &[Case], times: &Times, out: &mut impl Write) -> Result<(), Failure> {
+    let mut table = Table::new(
+        "The calls for C on a full image of 8,192 words, 64 records of 991 bytes. Plain Rust makes one pass for each row.",
+        &["asked", "C calls", "C ns", "plain Rust ns", "ratio", "bar", ""],
+    );
+    for case in cases {
+        let made = match case.job {
+            COUNT_RECORDS => 1,
+            ONE_RECORD => 3,
+            _ => 1 + 3 * FULL,
+        };
+        let mut row = vec![case.call().to_string(), grouped(made)];
+        row.extend(pair_cells(case, times));
+        row.extend(match case.job {
+            COUNT_RECORDS => bar(times[case][0] / times[case][1], 1.3),
+            _ => [String::new(), String::new()],
+        });
+        table.row(row);
+    }
+    table.print(out)
+}
+
+/// Says that a program is not there.
+fn skipped(
+    what: &str,
+    path: Option<&Path>,
+    built: &str,
+    out: &mut impl Write,
+) -> Result<(), Failure> {
+    let why = match path {
+        Some(path) => format!("{} is not there; {built}", path.display()),
+        None => "no program was named for it".to_string(),
+    };
+    writeln!(out, "\n{what}: skipped, {why}.")?;
+    Ok(())
+}
+
 fn pmemlog(path: Option<&Path>, rounds: usize, out: &mut impl Write) -> Result<(), Failure> {
     let Some(path) = path.filter(|path| path.exists()) else {
-        let why = match path {
-            Some(path) => {
-                format!("{} is not there; it is built where libpmemlog is", path.display())
-            }
-            None => "no program was named for it".to_string(),
-        };
-        writeln!(out, "\nlibpmemlog: skipped, {why}.")?;
-        return Ok(());
+        return skipped("libpmemlog", path, "it is built where libpmemlog is", out);
     };
     let by_msync = Program::new(path);
     let by_lines = Program { variables: &[("PMEM_IS_PMEM_FORCE", "1")], ..by_msync };

@@ -6,7 +6,7 @@ use crate::replay::replay;
 use crate::samples::samples;
 use std::io::{self, Read, Write};
 use std::path::Path;
-use std::process::{Command, Stdio};
+use std::process::{Command, ExitStatus, Stdio};
 
 /// Where another program's output differs from ours.
 pub struct Difference {
@@ -70,6 +70,11 @@ pub fn compare(
 
 /// What a program writes when it is given this input.
 fn output_of(program: &Path, input: &[u8]) -> io::Result<Vec<u8>> {
+    Ok(output_and_status(program, input)?.0)
+}
+
+/// The same, and how the program ended.
+pub fn output_and_status(program: &Path, input: &[u8]) -> io::Result<(Vec<u8>, ExitStatus)> {
     let mut child = Command::new(program).stdin(Stdio::piped()).stdout(Stdio::piped()).spawn()?;
     let mut stdin = child.stdin.take().expect("stdin is piped");
     let mut stdout = child.stdout.take().expect("stdout is piped");
@@ -79,11 +84,11 @@ fn output_of(program: &Path, input: &[u8]) -> io::Result<Vec<u8>> {
         scope.spawn(move || drop(stdin.write_all(input)));
         stdout.read_to_end(&mut output)
     })?;
-    child.wait()?;
-    Ok(output)
+    Ok((output, child.wait()?))
 }
 
-fn difference(seed: u64, what: &'static str, ours: &[u8], theirs: &[u8]) -> Option<Difference> {
+/// The first line in which two outputs differ.
+pub fn difference(seed: u64, what: &'static str, ours: &[u8], theirs: &[u8]) -> Option<Difference> {
     if ours == theirs {
         return None;
     }

@@ -5,7 +5,7 @@ use crate::replay::replay;
 use crate::script::{Answer, Outcome};
 use std::fmt::Write as _;
 
-/// Refusals are numbered 1 to 15.
+/// Refusals of a script's calls are numbered 1 to 15.
 const REFUSALS: usize = 15;
 
 /// The calls, and which refusals of document 01's table each can meet. Refusal 1 is every call's. 2 goes

@@ -1,6 +1,6 @@
-//! An executable reading of document 01, "The drive log on one module".
+//! An executable reading of document 01, "The drive log on one module", and of the change requests of document 02 that landed.
 //!
-//! It is written from the document alone and shares nothing with the proved implementation, so that
+//! It is written from the documents alone and shares nothing with the proved implementation, so that
 //! each can be measured against the other. Plain Rust, standard library only.
 //!
 //! | document     | here          | document | here         |
@@ -13,10 +13,11 @@
 
 #![forbid(unsafe_code)]
 
-// The log of document 01.
+// The log of document 01, and the calls that document 02 adds.
 pub mod calls;
 pub mod layout;
 pub mod ops;
+pub mod query;
 pub mod refusal;
 pub mod state;
 
@@ -29,11 +30,13 @@ pub mod device;
 
 // Programs.
 pub mod bench;
+pub mod c_calls;
 pub mod compare;
 pub mod cover;
 pub mod crash;
 pub mod demo;
 pub mod gen;
+pub mod images;
 pub mod loglist;
 pub mod replay;
 pub mod rng;

@@ -1,7 +1,7 @@
 //! The program loglist: lists the records of an image.
 
 use crate::calls::{fetch, next, open, Next};
-use crate::layout::{MARK_RELEASED, MAX_IMAGE_WORDS};
+use crate::layout::{words_of_bytes, MARK_RELEASED, MAX_IMAGE_WORDS};
 use crate::refusal::Refusal;
 use std::fmt::Write as _;
 use std::io::{self, Read};
@@ -21,13 +21,7 @@ pub fn loglist(bytes: &[u8]) -> String {
 }
 
 fn list(bytes: &[u8]) -> Result<String, Refusal> {
-    if !bytes.len().is_multiple_of(8) {
-        return Err(Refusal::ImageSize);
-    }
-    let image: Vec<u64> = bytes
-        .chunks_exact(8)
-        .map(|word| word.iter().rev().fold(0, |value, &byte| value << 8 | u64::from(byte)))
-        .collect();
+    let image = words_of_bytes(bytes).ok_or(Refusal::ImageSize)?;
     let mut cursor = open(&image)?;
     let mut text = format!("{HEADING}\n");
     let last_line = loop {
@@ -51,7 +45,8 @@ fn list(bytes: &[u8]) -> Result<String, Refusal> {
     Ok(text + &last_line)
 }
 
-fn hex(payload: &[u8]) -> String {
+/// Bytes as hex pairs, "-" if there are none.
+pub fn hex(payload: &[u8]) -> String {
     if payload.is_empty() {
         return "-".to_string();
     }

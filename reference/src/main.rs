@@ -1,6 +1,7 @@
 //! The command line. `reference` alone says what there is.
 
 use reference::bench::{bench, same_work, Failure, Programs};
+use reference::c_calls::c_calls;
 use reference::compare::{compare, compare_samples};
 use reference::cover::Coverage;
 use reference::crash::{crash_bench, Program};
@@ -8,6 +9,7 @@ use reference::demo::demo;
 use reference::gen;
 use reference::loglist::{loglist, read_image_bytes};
 use reference::replay::replay;
+use reference::samples::full_image;
 use reference::shortcut::Shortcut;
 use reference::stored_script::stored_script;
 use reference::time::list_times;
@@ -25,12 +27,14 @@ usage: reference demo                    tell the story that the program demo te
        reference gen SEED                write one random script to standard output
        reference gen SEED N DIR          write N scripts as DIR/script-<seed>.bin
        reference image SEED              write an image from that script, perhaps damaged
+       reference full-image              write a full image of 8,192 words
        reference compare REPLAY LOGLIST SEED N
                                          compare two other programs with ours on N seeds
+       reference c-calls DRIVER SEED N   compare the calls that a C program makes with ours, on N images
        reference samples LOGLIST         run another loglist on images written word by word
        reference time PROGRAM...         how long each takes to list a full image
        reference same-work PROVED PLAIN  whether two bench programs leave the same
-       reference bench PROVED PLAIN C_BENCH [PMEM] [--rounds N]
+       reference bench PROVED PLAIN C_BENCH [PMEM] [--calls C_CALLS] [--rounds N]
                                          how long the calls take, case by case
        reference cover SEED N            count what N scripts reach
        reference crash SECONDS [--program PATH] [--seed S] [--shortcut K]
@@ -77,6 +81,7 @@ fn run(args: &[&str]) -> io::Result<ExitCode> {
             }
         }
         ["image", seed] => stdout.write_all(&gen::image(parse(seed)?))?,
+        ["full-image"] => stdout.write_all(&full_image())?,
         ["compare", replay, loglist, seed, count] => {
             let result =
                 compare(Path::new(replay), Path::new(loglist), parse(seed)?, parse(count)?)?;
@@ -102,6 +107,30 @@ fn run(args: &[&str]) -> io::Result<ExitCode> {
                 ExitCode::FAILURE
             });
         }
+        ["c-calls", driver, seed, count] => {
+            let report = c_calls(Path::new(driver), parse(seed)?, parse(count)?)?;
+            if let Some((image, found)) = &report.difference {
+                writeln!(
+                    stdout,
+                    "seed {}, image '{image}': line {} differs",
+                    found.seed, found.line
+                )?;
+                writeln!(stdout, "reference: {}\nprogram:   {}", found.ours, found.theirs)?;
+            }
+            writeln!(
+                stdout,
+                "c-calls: {} images, {} calls, {} differences",
+                report.images,
+                report.calls,
+                report.difference.iter().count()
+            )?;
+            stdout.flush()?;
+            return Ok(if report.difference.is_none() {
+                ExitCode::SUCCESS
+            } else {
+                ExitCode::FAILURE
+            });
+        }
         ["samples", loglist] => match compare_samples(Path::new(loglist))? {
             Ok(count) => writeln!(stdout, "samples: {count} images listed as they should be")?,
             Err(difference) => {
@@ -117,18 +146,25 @@ fn run(args: &[&str]) -> io::Result<ExitCode> {
             }
         }
         ["bench", proved, plain, crc, options @ ..] => {
-            let (pmemlog, rounds) = match options {
-                [] => (None, 31),
-                [pmemlog] if !pmemlog.starts_with('-') => (Some(Path::new(pmemlog)), 31),
-                ["--rounds", rounds] => (None, parse(rounds)?),
-                [pmemlog, "--rounds", rounds] => (Some(Path::new(pmemlog)), parse(rounds)?),
-                _ => return Err(invalid(format!("not an option: {}", options.join(" ")))),
+            let (pmemlog, options) = match options {
+                [pmemlog, rest @ ..] if !pmemlog.starts_with('-') => {
+                    (Some(Path::new(*pmemlog)), rest)
+                }
+                _ => (None, options),
             };
+            let (mut calls, mut rounds) = (None, 31);
+            for option in options.chunks(2) {
+                match *option {
+                    ["--calls", path] => calls = Some(Path::new(path)),
+                    ["--rounds", number] => rounds = parse(number)?,
+                    _ => return Err(invalid(format!("not an option: {}", option.join(" ")))),
+                }
+            }
             if rounds == 0 {
                 return Err(invalid("not a good number: 0".to_string()));
             }
             let (proved, plain, crc) = (Path::new(proved), Path::new(plain), Path::new(crc));
-            let programs = Programs { proved, plain, crc, pmemlog };
+            let programs = Programs { proved, plain, crc, pmemlog, calls };
             let done = bench(&programs, rounds, &mut stdout);
             return no_difference(done, &mut stdout);
         }

@@ -1,6 +1,6 @@
-//! The table "When a call declines".
+//! The table "When a call declines", and refusal 16 of document 02.
 
-/// Why a call declined. Its number and detail are those of document 01.
+/// Why a call declined. Its number and detail are those of the documents.
 #[derive(Clone, Copy, Debug, PartialEq, Eq)]
 pub enum Refusal {
     /// The image does not have 40 to 8,192 words, or not the state's capacity + 24.
@@ -34,6 +34,8 @@ pub enum Refusal {
     OpBufferShort {
         needed: u64,
     },
+    /// The index is not below the number of listed records.
+    NoRecord,
 }
 
 impl Refusal {
@@ -54,6 +56,7 @@ impl Refusal {
             Refusal::TooMany { .. } => 13,
             Refusal::OutputShort => 14,
             Refusal::OpBufferShort { .. } => 15,
+            Refusal::NoRecord => 16,
         }
     }
 

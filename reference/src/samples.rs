@@ -15,28 +15,33 @@ pub struct Sample {
     pub text: String,
 }
 
-struct Record {
-    kind: u64,
-    mark: u64,
-    payload: Vec<u8>,
+pub(crate) struct Record {
+    pub(crate) kind: u64,
+    pub(crate) mark: u64,
+    pub(crate) payload: Vec<u8>,
 }
 
 fn record(kind: u64, mark: u64, payload: &[u8]) -> Record {
     Record { kind, mark, payload: payload.to_vec() }
 }
 
-/// An image of so many words that holds these records from a head position and LSN on.
-struct Written {
-    image: Vec<u64>,
-    ring: Ring,
+/// An image of so many words that holds these records from a head position and LSN on. Copy 1 of its superline is active.
+pub(crate) struct Written {
+    pub(crate) image: Vec<u64>,
+    pub(crate) ring: Ring,
     /// Where each record begins.
-    positions: Vec<u64>,
-    head_lsn: u64,
+    pub(crate) positions: Vec<u64>,
+    pub(crate) head_lsn: u64,
     lines: Vec<String>,
 }
 
 impl Written {
-    fn new(words: usize, head_position: u64, head_lsn: u64, records: &[Record]) -> Written {
+    pub(crate) fn new(
+        words: usize,
+        head_position: u64,
+        head_lsn: u64,
+        records: &[Record],
+    ) -> Written {
         let mut image = vec![0x7777_7777_7777_7777; words];
         let ring = Ring::of_image(&image).expect("a good size");
         let capacity = ring.capacity();
@@ -61,7 +66,7 @@ impl Written {
         written
     }
 
-    fn put(&mut self, position: u64, lsn: u64, record: &Record) {
+    pub(crate) fn put(&mut self, position: u64, lsn: u64, record: &Record) {
         let length = record.payload.len() as u64;
         let check = record_check(length, record.kind, lsn, record.payload.iter().copied());
         *self.word(position, 0) = Header { length, kind: record.kind, mark: record.mark }.word();
@@ -74,12 +79,12 @@ impl Written {
         }
     }
 
-    fn word(&mut self, position: u64, words: u64) -> &mut u64 {
+    pub(crate) fn word(&mut self, position: u64, words: u64) -> &mut u64 {
         let word = self.ring.word(position, words);
         &mut self.image[word as usize]
     }
 
-    fn bytes(&self) -> Vec<u8> {
+    pub(crate) fn bytes(&self) -> Vec<u8> {
         self.image.iter().flat_map(|word| word.to_le_bytes()).collect()
     }
 

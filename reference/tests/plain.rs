@@ -1,6 +1,7 @@
 //! The log written for speed does the same work as the clear one: answer or refusal, image, op buffer and state after each call.
 
 use reference::calls::{self, Done};
+use reference::images::{image, SORTS};
 use reference::layout::{crc32, record_size, TABLE_SIZE};
 use reference::loglist::loglist;
 use reference::plain;
@@ -10,7 +11,7 @@ use reference::rng::Rng;
 use reference::samples::{full_image, samples};
 use reference::script::{Command, Parsed};
 use reference::state::{Entry, Stage, State};
-use reference::{gen, replay};
+use reference::{gen, query, replay};
 use std::collections::BTreeSet;
 use std::fmt::Debug;
 
@@ -129,6 +130,40 @@ fn same_list(bytes: &[u8]) {
     let mut text = b"old text".to_vec();
     plain::list(bytes, &mut text);
     assert_eq!(String::from_utf8(text).unwrap(), loglist(bytes));
+}
+
+/// One pass gives what the calls for the ordering program give record by record.
+fn same_records(bytes: &[u8]) {
+    let mut records = Vec::new();
+    let result = plain::listed(bytes, |record| {
+        let payload = [record.payload.0, record.payload.1].concat();
+        records.push((i64::from(record.kind), record.lsn as i64, payload));
+    });
+    match result {
+        Err(refusal) => assert_eq!(query::count(bytes), -(refusal.number() as i64)),
+        Ok(count) => {
+            assert_eq!(query::count(bytes), count as i64);
+            assert_eq!(records.len() as u64, count);
+            for (index, (kind, lsn, payload)) in (0..).zip(records) {
+                let mut output = vec![0; payload.len()];
+                assert_eq!(query::kind(bytes, index), kind);
+                assert_eq!(query::lsn(bytes, index), lsn);
+                assert_eq!(query::payload(bytes, index, &mut output), payload.len() as i64);
+                assert_eq!(output, payload);
+            }
+        }
+    }
+}
+
+#[test]
+fn images_of_every_sort() {
+    for sample in samples() {
+        same_records(&sample.bytes);
+    }
+    for seed in 0..4 * SORTS.len() as u64 {
+        same_records(&image(seed).1);
+    }
+    same_records(&full_image());
 }
 
 /// Histories that wrap around, full tables, unsound and forged states, all image sizes, damaged superlines and records, last

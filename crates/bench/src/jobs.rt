@@ -66,6 +66,21 @@ fn work(
     log::list_over(image, text, job.count)
 }
 
+// Job 1000 + k: the release of the head with k released records behind it, so often, each time of the same state. Job 2000 + k
+// is the same with no LSN, 0: such a release is refused behind the soundness test, so that the two tell what lies behind that test.
+fn release_job(job: Job, image: &mut [u64], ops: &mut [u64], payload: &[u8]) -> Done {
+    let s = log::start(image, ops, payload, job.live);
+    let t = log::release_behind(s, image, ops, job.number % 1000);
+    let lsn = if job.number < 2000 { t.head_lsn } else { 0 };
+    let before = now();
+    log::release_over(t, image, ops, lsn, job.count);
+    let microseconds = since(before);
+    Done {
+        microseconds,
+        digest: room::digest(image),
+    }
+}
+
 // A CRC-32 of what a job left: of the image after appends and recoveries, of the text after listings.
 fn digest_of(number: u64, image: &[u64], text: &[u8]) -> u64 {
     if (number == 1) | (number == 3) {
@@ -120,5 +135,8 @@ pub fn run(job: Job, image: &mut [u64], ops: &mut [u64], payload: &[u8], text: &
         return crc_job(job, &payload[..k], &mut image[..n]);
     }
     let n = limited(job.words, image.len());
+    if 1000 <= job.number {
+        return release_job(job, &mut image[..n], ops, &payload[..k]);
+    }
     job_on(job, &mut image[..n], ops, &payload[..k], text)
 }

@@ -78,6 +78,27 @@ pub fn start(image: &mut [u64], ops: &mut [u64], payload: &[u8], live: u64) -> S
     forced.state
 }
 
+// The `k` records behind the head released. A proved loop has to end: it goes up to the LSN behind them.
+pub fn release_behind(s: State, image: &mut [u64], ops: &mut [u64], k: u64) -> State {
+    let mut t = s;
+    let mut left = k;
+    while 0 < left {
+        let released = release(t, image, ops, std::num::wrapping_add_u64(s.head_lsn, left));
+        t = released.state;
+        left -= 1;
+    }
+    t
+}
+
+// So many releases of an LSN, each of the same state.
+pub fn release_over(s: State, image: &mut [u64], ops: &mut [u64], lsn: u64, count: u64) {
+    let mut left = count;
+    while 0 < left {
+        release(s, image, ops, lsn);
+        left -= 1;
+    }
+}
+
 // So many recoveries of an image.
 pub fn recover_over(image: &mut [u64], ops: &mut [u64], count: u64) {
     let mut left = count;

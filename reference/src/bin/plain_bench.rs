@@ -1,7 +1,9 @@
 //! Times the calls of the plain log. Standard input: five little-endian words, job, bytes, live, count and words. Standard output: the
 //! microseconds of CPU time that the timed part took and a CRC-32 of what it left. Bad input: nothing.
 //!
-//! Jobs: 1 append, 2 CRC-32, 3 recover, 4 list.
+//! Jobs: 1 append, 2 CRC-32, 3 recover, 4 list. Jobs 5 to 7 read an image of so many words behind the five numbers and get, in one pass,
+//! what tests/bench/calls.c gets call by call: 5 the number of listed records, 6 the last of them, 7 all of them. Job 1000 + k is the
+//! release of the head with k released records behind it, 2000 + k one that is refused behind the soundness test.
 
 use reference::calls::Done;
 use reference::plain::{self, State};
@@ -83,12 +85,45 @@ fn main() -> io::Result<()> {
     }
     let (numbers, _) = input.as_chunks();
     let [job, bytes, live, count, words] = std::array::from_fn(|i| u64::from_le_bytes(numbers[i]));
+    if (5..=7).contains(&job) {
+        let mut image = Vec::new();
+        io::stdin().lock().take(8 * words).read_to_end(&mut image)?;
+        if let Some((time, digest)) = query(job, count, &image) {
+            println!("{time} {digest}");
+        }
+        return Ok(());
+    }
     if (1..=1_024).contains(&bytes) && live <= 64 && (40..=8_192).contains(&words) {
         if let Some((time, digest)) = run(job, bytes, live, count, words as usize) {
             println!("{time} {digest}");
         }
     }
     Ok(())
+}
+
+/// The time and the digest of a job over an image, if it is not refused.
+fn query(job: u64, count: u64, image: &[u8]) -> Option<(i64, u64)> {
+    let last = plain::listed(image, |_| {}).ok()?.checked_sub(1)?;
+    let mut found = Vec::with_capacity(image.len());
+    let mut records = 0;
+    let time = time(|| {
+        for _ in 0..count {
+            found.clear();
+            let mut index = 0;
+            let done = plain::listed(black_box(image), |record| {
+                if job == 7 || job == 6 && index == last {
+                    found.extend_from_slice(&u64::from(record.kind).to_le_bytes());
+                    found.extend_from_slice(&record.lsn.to_le_bytes());
+                    found.extend_from_slice(record.payload.0);
+                    found.extend_from_slice(record.payload.1);
+                }
+                index += 1;
+            });
+            records = black_box(done.unwrap_or(0));
+            black_box(&found);
+        }
+    });
+    Some((time, if job == 5 { records } else { plain::crc32_of_bytes(&found) }))
 }
 
 /// The time and the digest of a job, if there is such a job.
@@ -139,6 +174,23 @@ fn run(job: u64, bytes: u64, live: u64, count: u64, words: usize) -> Option<(i64
                 }
             });
             Some((time, plain::crc32_of_bytes(&text)))
+        }
+        1000..3000 => {
+            let mut log = Log::with_live(words, payload, live);
+            let head = log.state.head_lsn;
+            for lsn in (head + 1..=head + job % 1000).rev() {
+                let Log { image, op_buffer, state, .. } = &mut log;
+                let _ = plain::release(image, op_buffer, state, lsn);
+            }
+            let lsn = if job < 2000 { head } else { 0 };
+            let Log { mut image, mut op_buffer, state, .. } = log;
+            let time = time(|| {
+                for _ in 0..count {
+                    let mut state = black_box(&state).clone();
+                    let _ = black_box(plain::release(&mut image, &mut op_buffer, &mut state, lsn));
+                }
+            });
+            Some((time, plain::crc32_of_words(&image)))
         }
         _ => None,
     }

@@ -8,12 +8,14 @@
 mod calls;
 mod crc;
 mod list;
+mod query;
 mod scan;
 mod state;
 
 pub use calls::{complete, copy, force, format, recover, release, reserve};
 pub use crc::{crc32_of_bytes, crc32_of_words};
 pub use list::list;
+pub use query::{listed, Listed};
 pub use state::{Entry, Stage, State};
 
 /// `count` items of a ring from `start` on: those up to its end, and those that go round.

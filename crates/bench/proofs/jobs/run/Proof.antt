@@ -8,25 +8,15 @@ use native.Mathlib.Omega.{arith}
 use Rattle.bench.proofs.jobs.run.Statement.{statement}
 use Rattle.bench.proofs.jobs.run.Tie as tie
 
-slice-aggregate-crc-job : tie.Need-slice-aggregate-crc-job
-slice-aggregate-crc-job c = front _ _ (search needs)
-
-slice-aggregate-crc-job-2 : tie.Need-slice-aggregate-crc-job-2
-slice-aggregate-crc-job-2 c = front _ _ (search needs)
-
 crc-job-requires : tie.Need-crc-job-requires
 crc-job-requires c κs = omega (arith, length-take-le (c .before .before .limited2 .result) (now (c .before .before .before .before .before .before .before .before .before .before .args .image)) (c .before .before .limited2 .ensures .0), length-take-le (c .before .before .before .before .before .limited .result) (now (c .before .before .before .before .before .before .before .before .before .before .args .payload)) (c .before .before .before .before .before .limited .ensures .0), c .before .before .limited2 .ensures .1)
-
-slice-aggregate-job-on : tie.Need-slice-aggregate-job-on
-slice-aggregate-job-on c = front _ _ (search needs)
-
-slice-aggregate-job-on-2 : tie.Need-slice-aggregate-job-on-2
-slice-aggregate-job-on-2 c = front _ _ (search needs)
 
 pub run-spec : {M : Type 1} → statement M
 run-spec =
     tie.close
-    (tie.spec (λ c. λ κs. search needs) (λ c. λ κs. search needs) slice-aggregate-crc-job (λ c. search needs)
-    slice-aggregate-crc-job-2 crc-job-requires (λ c. search needs) (λ c. search needs) (λ c. λ κs. search needs)
-    (λ c. search needs) slice-aggregate-job-on slice-aggregate-job-on-2 (λ c. λ κs. search needs)
-    (λ c. search needs) (λ c. search needs) (λ c. search needs) (λ c. search needs))
+    (tie.spec (λ c. λ κs. search needs) (λ c. λ κs. search needs) (λ c. front _ _ (search needs))
+    (λ c. search needs) (λ c. front _ _ (search needs)) crc-job-requires (λ c. search needs) (λ c. search needs)
+    (λ c. λ κs. search needs) (λ c. search needs) (λ c. front _ _ (search needs))
+    (λ c. front _ _ (search needs)) (λ c. λ κs. search needs) (λ c. search needs) (λ c. search needs)
+    (λ c. search needs) (λ c. search needs) (λ c. front _ _ (search needs)) (λ c. front _ _ (search needs))
+    (λ c. λ κs. search needs) (λ c. search needs) (λ c. search needs) (λ c. search needs) (λ c. search needs))
