@@ -8,11 +8,10 @@ use drivelog::Answer;
 use drivelog::Cursor;
 use drivelog::Found;
 use drivelog::Opened;
+use drivelog::Outcome;
 use drivelog::State;
 use drivelog::Step;
-ghost use mathlib.Core.Path.{_≡_};
 ghost use Prim.Native.Nat.{_≤_};
-ghost use lib.ListN.{length};
 
 // The words of the module.
 const WORDS: usize = 64;
@@ -38,29 +37,8 @@ const CUT: usize = 5;
 // The word whose store the memory keeps although it is not flushed.
 const KEPT_WORD: usize = 45;
 
-// The words of a new memory module. The `ensures` gives only the length, which lending the array needs.
-fn new_words() -> [u64; WORDS]
-    ensures { λ r. ⌜ 64 ≡ length r ⌝ }
-{
-    [0; WORDS]
-}
-
-// The words of an op buffer.
-fn new_ops() -> [u64; OPS_WORDS]
-    ensures { λ r. ⌜ 96 ≡ length r ⌝ }
-{
-    [0; OPS_WORDS]
-}
-
 // The driver carries ops out on the memory module, which has two values for each word: the flushed one, which stays, and
 // the newest one stored, which a power failure may take.
-
-// A store: the word has a new value, which is not flushed.
-fn store(stored: &mut [u64; WORDS], word: u64, value: u64) {
-    if word < WORDS as u64 {
-        stored[word as usize] = value;
-    }
-}
 
 // A flush: each of its words keeps its newest value.
 fn flush(flushed: &mut [u64; WORDS], stored: &[u64; WORDS], first: u64, count: u64) {
@@ -76,7 +54,8 @@ fn flush(flushed: &mut [u64; WORDS], stored: &[u64; WORDS], first: u64, count: u
     }
 }
 
-// One op of the op buffer: a store is (1, word, value), a flush (2, first word, count).
+// One op of the op buffer. A flush is (2, first word, count). A store is (1, word, value): the word has a new value, which is
+// not flushed.
 fn carry_one(
     tag: u64,
     word: u64,
@@ -84,10 +63,12 @@ fn carry_one(
     flushed: &mut [u64; WORDS],
     stored: &mut [u64; WORDS],
 ) {
-    if tag == 1 {
-        store(stored, word, value);
-    } else {
+    if tag != 1 {
         flush(flushed, stored, word, value);
+        return;
+    }
+    if word < WORDS as u64 {
+        stored[word as usize] = value;
     }
 }
 
@@ -113,48 +94,29 @@ fn carry_out(
     }
 }
 
-// Power fails: each word falls back to its flushed value, but for one, which keeps what was stored there. The memory may
-// keep or lose each store that is not flushed.
-fn lose_stores(flushed: &mut [u64; WORDS], stored: &mut [u64; WORDS], kept: usize) {
-    let mut i: usize = 0;
-    while i < WORDS {
-        if i == kept {
-            flushed[i] = stored[i];
-        } else {
-            stored[i] = flushed[i];
-        }
-        i += 1;
-    }
-}
-
 // The drive program makes the calls. The driver carries out the ops of each before the next.
 
 // Formats the image. Answers the state of the empty log.
 fn format(
     image: &mut [u64; WORDS],
-    ops: &mut [u64; OPS_WORDS],
     flushed: &mut [u64; WORDS],
     stored: &mut [u64; WORDS],
 ) -> State {
-    let formatted = drivelog::format(image, ops);
-    carry_out(ops, formatted.ops, flushed, stored);
-    let answer = formatted.answer;
-    let state = formatted.state;
+    let mut ops = [0u64; OPS_WORDS];
+    let outcome = drivelog::format(image, &mut ops);
+    carry_out(&ops, outcome.ops, flushed, stored);
     say::text(b"format: ");
-    say::outcome(answer, formatted.ops);
-    say::area(state.area, WORDS as u64);
-    state
+    say::outcome(outcome);
+    outcome.state
 }
 
 // The LSN that reserve answered; 0, which is no LSN, where it was refused.
-fn lsn_of(answer: Answer) -> u64 {
-    match answer {
-        Answer::Done => 0,
-        Answer::Reserved(lsn, _) => lsn,
-        Answer::Durable => 0,
-        Answer::Deferred => 0,
-        Answer::Refused(_) => 0,
+fn lsn_of(outcome: Outcome) -> u64 {
+    let answer = outcome.answer;
+    if let Answer::Reserved(lsn, _) = answer {
+        return lsn;
     }
+    0
 }
 
 // Writes a record: room for it, its data, its check. Answers the state after it.
@@ -163,61 +125,56 @@ fn write_record(
     kind: u64,
     data: &[u8],
     image: &mut [u64; WORDS],
-    ops: &mut [u64; OPS_WORDS],
     flushed: &mut [u64; WORDS],
     stored: &mut [u64; WORDS],
 ) -> State {
-    let reserved = drivelog::reserve(state, image, ops, kind, data.len() as u64);
-    carry_out(ops, reserved.ops, flushed, stored);
-    let reserve_answer = reserved.answer;
-    let lsn = lsn_of(reserve_answer);
-    let open = reserved.state;
+    let mut ops = [0u64; OPS_WORDS];
+    let mut outcome = drivelog::reserve(state, image, &mut ops, kind, data.len() as u64);
+    carry_out(&ops, outcome.ops, flushed, stored);
+    let lsn = lsn_of(outcome);
 
-    let copied = drivelog::copy(open, image, ops, lsn, 0, data);
-    carry_out(ops, copied.ops, flushed, stored);
-    let filled = copied.state;
+    outcome = drivelog::copy(outcome.state, image, &mut ops, lsn, 0, data);
+    carry_out(&ops, outcome.ops, flushed, stored);
 
-    let completed = drivelog::complete(filled, image, ops, lsn);
-    carry_out(ops, completed.ops, flushed, stored);
-    let answer = completed.answer;
-    say::record(lsn, kind, data, answer);
-    completed.state
+    outcome = drivelog::complete(outcome.state, image, &mut ops, lsn);
+    carry_out(&ops, outcome.ops, flushed, stored);
+    say::record(lsn, kind, data, outcome);
+    outcome.state
 }
 
 // Three records, and a force that makes them durable.
 fn write_durable(
-    state: State,
+    mut state: State,
     image: &mut [u64; WORDS],
-    ops: &mut [u64; OPS_WORDS],
     flushed: &mut [u64; WORDS],
     stored: &mut [u64; WORDS],
 ) -> State {
-    say::writing();
-    let one = write_record(state, 1, b"\x41\x20", image, ops, flushed, stored);
-    let two = write_record(one, 2, b"\x08\x70", image, ops, flushed, stored);
+    say::text(
+        b"\nThree records are written: reserve, copy and complete for each. Then one force.\n",
+    );
+    state = write_record(state, 1, b"\x41\x20", image, flushed, stored);
+    state = write_record(state, 2, b"\x08\x70", image, flushed, stored);
     let part = b"\x62\x05\x20\x41\x77\x33\x98\x12\x04";
-    let three = write_record(two, 3, part, image, ops, flushed, stored);
-    let forced = drivelog::force(three, image, ops, FIRST_FORCE, EVERY_LSN);
-    carry_out(ops, forced.ops, flushed, stored);
-    let answer = forced.answer;
-    say::numbered(b"force up to LSN ", FIRST_FORCE);
-    say::text(b": ");
-    say::outcome(answer, forced.ops);
-    forced.state
+    state = write_record(state, 3, part, image, flushed, stored);
+    let mut ops = [0u64; OPS_WORDS];
+    let outcome = drivelog::force(state, image, &mut ops, FIRST_FORCE, EVERY_LSN);
+    carry_out(&ops, outcome.ops, flushed, stored);
+    say::form(b"force up to LSN #: ", &[FIRST_FORCE, 0, 0, 0]);
+    say::outcome(outcome);
+    outcome.state
 }
 
 // Three records that are complete, with no force.
 fn write_more(
-    state: State,
+    mut state: State,
     image: &mut [u64; WORDS],
-    ops: &mut [u64; OPS_WORDS],
     flushed: &mut [u64; WORDS],
     stored: &mut [u64; WORDS],
 ) -> State {
-    say::writing_more();
-    let four = write_record(state, 1, b"\x41\x44", image, ops, flushed, stored);
-    let five = write_record(four, 2, b"\x09\x12", image, ops, flushed, stored);
-    write_record(five, 1, b"\x41\x68", image, ops, flushed, stored)
+    say::text(b"\nThree more are complete, and not forced yet.\n");
+    state = write_record(state, 1, b"\x41\x44", image, flushed, stored);
+    state = write_record(state, 2, b"\x09\x12", image, flushed, stored);
+    write_record(state, 1, b"\x41\x68", image, flushed, stored)
 }
 
 // Prints ops of the op buffer, each with a remark.
@@ -235,54 +192,64 @@ fn say_ops(ops: &[u64; OPS_WORDS], from: usize, to: usize, remark: &[u8]) {
 fn force_cut(
     state: State,
     image: &mut [u64; WORDS],
-    ops: &mut [u64; OPS_WORDS],
     flushed: &mut [u64; WORDS],
     stored: &mut [u64; WORDS],
 ) {
-    let forced = drivelog::force(state, image, ops, SECOND_FORCE, EVERY_LSN);
-    let cut = least(CUT, forced.ops);
-    carry_out(ops, cut, flushed, stored);
-    let answer = forced.answer;
-    say::numbered(b"\nforce up to LSN ", SECOND_FORCE);
-    say::text(b": ");
-    say::outcome(answer, forced.ops);
-    say::cutting();
-    say_ops(ops, 0, cut, b"");
+    let mut ops = [0u64; OPS_WORDS];
+    let outcome = drivelog::force(state, image, &mut ops, SECOND_FORCE, EVERY_LSN);
+    let cut = least(CUT, outcome.ops);
+    carry_out(&ops, cut, flushed, stored);
+    say::form(b"\nforce up to LSN #: ", &[SECOND_FORCE, 0, 0, 0]);
+    say::outcome(outcome);
+    say::text(
+        b"The answer counts once the driver has carried all these ops out: flush the records, set the\n\
+          mark in the first word of each, flush the marks. It does not get there:\n",
+    );
+    say_ops(&ops, 0, cut, b"\n");
     say::text(b"  power fails here\n");
-    say_ops(ops, cut, forced.ops, b" (not carried out)");
+    say_ops(&ops, cut, outcome.ops, b" (not carried out)\n");
 }
 
-// Prints each word that is stored and not flushed, and what the power failure makes of it.
-fn say_unflushed(flushed: &[u64; WORDS], stored: &[u64; WORDS]) {
-    let mut i: usize = 0;
-    while i < WORDS {
-        if flushed[i] != stored[i] {
-            say::unflushed(i as u64, flushed[i], stored[i], i == KEPT_WORD);
-        }
-        i += 1;
+// The value that a power failure leaves to a word: the flushed one, but for one word, which keeps what was stored there. The
+// memory may keep or lose each store that is not flushed. Says so of a word that is not flushed.
+fn left_at(word: usize, flushed: u64, stored: u64) -> u64 {
+    if flushed == stored {
+        return flushed;
     }
+    if word == KEPT_WORD {
+        say::unflushed(word as u64, flushed, stored, b"kept\n");
+        return stored;
+    }
+    say::unflushed(word as u64, flushed, stored, b"lost\n");
+    flushed
 }
 
 // Power fails. The state is lost, and each word that is not flushed holds its old value or its new one.
 fn lose_power(flushed: &mut [u64; WORDS], stored: &mut [u64; WORDS]) {
-    say::failing();
-    say_unflushed(flushed, stored);
-    lose_stores(flushed, stored, KEPT_WORD);
+    say::text(
+        b"\nA word that is stored and not flushed may hold its old or its new value, each for itself:\n",
+    );
+    let mut i: usize = 0;
+    while i < WORDS {
+        let left = left_at(i, flushed[i], stored[i]);
+        flushed[i] = left;
+        stored[i] = left;
+        i += 1;
+    }
 }
 
 // Recovers the log from an image of what the module holds.
 fn recover(
     image: &mut [u64; WORDS],
-    ops: &mut [u64; OPS_WORDS],
     flushed: &mut [u64; WORDS],
     stored: &mut [u64; WORDS],
 ) -> State {
-    let recovered = drivelog::recover(image, ops);
-    carry_out(ops, recovered.ops, flushed, stored);
-    let answer = recovered.answer;
-    say::recovering();
-    say::outcome(answer, recovered.ops);
-    recovered.state
+    let mut ops = [0u64; OPS_WORDS];
+    let outcome = drivelog::recover(image, &mut ops);
+    carry_out(&ops, outcome.ops, flushed, stored);
+    say::text(b"\nThe drive starts again, with no state but what the module holds.\nrecover: ");
+    say::outcome(outcome);
+    outcome.state
 }
 
 // Whether two images have the same data for a record.
@@ -369,28 +336,35 @@ fn close(kept: u64, durable: u64, next_lsn: u64)
     requires { ⌜ kept ≤ 64 ⌝ }
 {
     if (durable <= kept) & (kept + 1 == next_lsn) {
-        say::closing(kept, durable, next_lsn, SECOND_FORCE);
+        say::form(
+            b"\nKept: LSN 1 to #, with the # that a force had made durable. Taken: LSN # to #.\n",
+            &[kept, durable, next_lsn, SECOND_FORCE],
+        );
     } else {
         say::text(b"\nThe log has broken its promise.\n");
     }
 }
 
 fn main() {
-    let mut image = new_words();
-    let mut ops = new_ops();
-    let mut flushed = new_words();
-    let mut stored = new_words();
+    let mut image = [0u64; WORDS];
+    let mut flushed = [0u64; WORDS];
+    let mut stored = [0u64; WORDS];
     say::opening();
-    let empty = format(&mut image, &mut ops, &mut flushed, &mut stored);
-    let durable = write_durable(empty, &mut image, &mut ops, &mut flushed, &mut stored);
-    let complete = write_more(durable, &mut image, &mut ops, &mut flushed, &mut stored);
-    force_cut(complete, &mut image, &mut ops, &mut flushed, &mut stored);
+    let mut state = format(&mut image, &mut flushed, &mut stored);
+    say::form(
+        b"Of the module's # words, # are the ring of records; the others say where the log begins.\n",
+        &[WORDS as u64, state.area, 0, 0],
+    );
+    state = write_durable(state, &mut image, &mut flushed, &mut stored);
+    let durable = state.committed_lsn;
+    state = write_more(state, &mut image, &mut flushed, &mut stored);
+    force_cut(state, &mut image, &mut flushed, &mut stored);
     lose_power(&mut flushed, &mut stored);
 
     let mut after = flushed;
-    let state = recover(&mut after, &mut ops, &mut flushed, &mut stored);
+    state = recover(&mut after, &mut flushed, &mut stored);
     let count = records_as_written(&flushed, &image);
     say::recovered(count, state.next_lsn, state.next_pos, KEPT_WORD as u64);
     say::listing(&flushed);
-    close(count, durable.committed_lsn, state.next_lsn);
+    close(count, durable, state.next_lsn);
 }
