@@ -66,8 +66,9 @@ fn work(
     log::list_over(image, text, job.count)
 }
 
-// Job 1000 + k: the release of the head with k released records behind it, so often, each time of the same state. Job 2000 + k
-// is the same with no LSN, 0: such a release is refused behind the soundness test, so that the two tell what lies behind that test.
+// Job 1000 + k: the release of the head with k released records behind it, so often, each time of the same state. Job
+// 2000 + k is the same with no LSN, 0: such a release is refused behind the soundness test, so that the two tell what
+// lies behind that test.
 fn release_job(job: Job, image: &mut [u64], ops: &mut [u64], payload: &[u8]) -> Done {
     let s = log::start(image, ops, payload, job.live);
     let t = log::release_behind(s, image, ops, job.number % 1000);

@@ -1,7 +1,7 @@
-// The program bench: makes the log's calls over and over, and prints the processor time that they took.
-// It reads five words: job, bytes of a record, live records, how often, words of the image. It prints the microseconds and
-// a CRC-32 of what the job left, by which `reference bench` sees that another program did the same work. Words that make
-// no job get no line. The contracts say only that the used parts stay inside the arrays.
+// The program bench: makes the log's calls over and over, and prints the processor time that they took. It reads five
+// words: job, bytes of a record, live records, how often, words of the image. It prints the microseconds and a CRC-32
+// of what the job left, by which `reference bench` sees that another program did the same work. Words that make no job
+// get no line. The contracts say only that the used parts stay inside the arrays.
 mod jobs;
 mod log;
 mod room;

@@ -37,8 +37,8 @@ const CUT: usize = 5;
 // The word whose store the memory keeps although it is not flushed.
 const KEPT_WORD: usize = 45;
 
-// The driver carries ops out on the memory module, which has two values for each word: the flushed one, which stays, and
-// the newest one stored, which a power failure may take.
+// The driver carries ops out on the memory module, which has two values for each word: the flushed one, which stays,
+// and the newest one stored, which a power failure may take.
 
 // A flush: each of its words keeps its newest value.
 fn flush(flushed: &mut [u64; WORDS], stored: &[u64; WORDS], first: u64, count: u64) {
@@ -54,8 +54,8 @@ fn flush(flushed: &mut [u64; WORDS], stored: &[u64; WORDS], first: u64, count: u
     }
 }
 
-// One op of the op buffer. A flush is (2, first word, count). A store is (1, word, value): the word has a new value, which is
-// not flushed.
+// One op of the op buffer. A flush is (2, first word, count). A store is (1, word, value): the word has a new value,
+// which is not flushed.
 fn carry_one(
     tag: u64,
     word: u64,
@@ -210,8 +210,8 @@ fn force_cut(
     say_ops(&ops, cut, outcome.ops, b" (not carried out)\n");
 }
 
-// The value that a power failure leaves to a word: the flushed one, but for one word, which keeps what was stored there. The
-// memory may keep or lose each store that is not flushed. Says so of a word that is not flushed.
+// The value that a power failure leaves to a word: the flushed one, but for one word, which keeps what was stored
+// there. The memory may keep or lose each store that is not flushed. Says so of a word that is not flushed.
 fn left_at(word: usize, flushed: u64, stored: u64) -> u64 {
     if flushed == stored {
         return flushed;

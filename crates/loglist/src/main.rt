@@ -1,5 +1,5 @@
-// The program loglist: reads an image's bytes from standard input and prints the records that it lists. What it prints is
-// `bytesText` of what it reads, by the contract of `list_bytes`; that it reads and prints is beyond any contract.
+// The program loglist: reads an image's bytes from standard input and prints the records that it lists. What it prints
+// is `bytesText` of what it reads, by the contract of `list_bytes`; that it reads and prints is beyond any contract.
 use libc::STDIN_FILENO;
 use libc::STDOUT_FILENO;
 use listing::LISTING_ROOM;

@@ -24,8 +24,8 @@ fn read_bytes(bytes: &mut [u8], count: u64) -> bool {
     got == size
 }
 
-// Reads `count` words, five at most, and tells whether all were there. The others become 0. The remainder is the count itself, and
-// keeps the product from wrapping.
+// Reads `count` words, five at most, and tells whether all were there. The others become 0. The remainder is the count
+// itself, and keeps the product from wrapping.
 fn read_words(words: &mut [u64; 5], count: u64) -> bool {
     let mut bytes = [0u8; 40];
     let whole = read_bytes(&mut bytes, 8 * (count % 8));
@@ -60,8 +60,8 @@ fn bad(number: u64) -> u64 {
     0
 }
 
-// Reads a command's number and its arguments; those that it does not have become 0. One that the end of the input cuts off
-// counts as the end, which is number 0.
+// Reads a command's number and its arguments; those that it does not have become 0. One that the end of the input cuts
+// off counts as the end, which is number 0.
 fn read_call(args: &mut [u64; 5]) -> u64 {
     if !read_words(args, 1) {
         return 0;

@@ -1,5 +1,5 @@
-// The program replay: reads a script of calls from standard input, makes each call on its own image, op buffer, state and
-// cursor, and prints what each call answered and left behind. docs/REPLAY.md has the script's words and the lines.
+// The program replay: reads a script of calls from standard input, makes each call on its own image, op buffer, state
+// and cursor, and prints what each call answered and left behind. docs/REPLAY.md has the script's words and the lines.
 // The contracts say only that the used parts stay inside the arrays.
 mod calls;
 mod digest;
@@ -59,8 +59,8 @@ fn limited(n: u64, limit: usize) -> usize
     limit
 }
 
-// Carries a command out: `n` words of the image and `t` of the op buffer are used. The bytes of a copy or of a fetch, its
-// third argument, are within the limit.
+// Carries a command out: `n` words of the image and `t` of the op buffer are used. The bytes of a copy or of a fetch,
+// its third argument, are within the limit.
 fn carry_out(
     number: u64,
     args: &[u64; 5],
@@ -88,8 +88,9 @@ fn carry_out(
     );
 }
 
-// Carries out the commands of the script, from an image and an op buffer of no words and a state and a cursor all zero. A
-// proved loop has to end, and nothing says that the input does, so it counts its turns down from a number that no run uses up.
+// Carries out the commands of the script, from an image and an op buffer of no words and a state and a cursor all
+// zero. A proved loop has to end, and nothing says that the input does, so it counts its turns down from a number that
+// no run uses up.
 fn run(image: &mut [u64], ops: &mut [u64], bytes: &mut [u8], out: &mut [u8; TEXT_SIZE]) {
     let mut numbers = [0u64; NUMBERS];
     let mut cursor = [0u64; 4];

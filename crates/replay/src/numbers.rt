@@ -1,5 +1,6 @@
-// The state as numbers in a lent array, in the order of docs/REPLAY.md: its eight fields, then place, length, kind and stage of
-// each table entry. Between the calls replay keeps them and no State; so a script sets, prints and digests plain numbers.
+// The state as numbers in a lent array, in the order of docs/REPLAY.md: its eight fields, then place, length, kind and
+// stage of each table entry. Between the calls replay keeps them and no State; so a script sets, prints and digests
+// plain numbers.
 use drivelog::Entry;
 use drivelog::Stage;
 use drivelog::State;

@@ -1,6 +1,6 @@
-// Lines of text on standard output, by way of a lent buffer. Each function puts its text from an index on and answers the
-// index behind it; a full buffer is written out, so that a line may be of any length.
-// The contracts say that the index stays inside the buffer.
+// Lines of text on standard output, by way of a lent buffer. Each function puts its text from an index on and answers
+// the index behind it; a full buffer is written out, so that a line may be of any length. The contracts say that the
+// index stays inside the buffer.
 use libc::STDOUT_FILENO;
 ghost use Prim.Native.Nat.{_≤_};
 ghost use lib.ListN.{length};

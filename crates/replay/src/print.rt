@@ -63,7 +63,8 @@ fn put_op(out: &mut [u8; TEXT_SIZE], at: usize, tag: u64, word: u64, value: u64)
     put_number(out, first, b' ', value)
 }
 
-// Puts the digests of the image, the op buffer and the state, and where there are four also the last, and ends the line.
+// Puts the digests of the image, the op buffer and the state, and where there are four also the last, and ends the
+// line.
 pub fn print_digests(
     out: &mut [u8; TEXT_SIZE],
     at: usize,

@@ -6,8 +6,8 @@ use drivelog::TABLE_SIZE;
 ghost use Prim.Native.Nat.{_≤_};
 ghost use lib.ListN.{length};
 
-// If a command fills an array, its first `count` words become `value`, or all of them where there are fewer. Answers how many
-// words are used: those, else as many as before.
+// If a command fills an array, its first `count` words become `value`, or all of them where there are fewer. Answers
+// how many words are used: those, else as many as before.
 pub fn fill_words(words: &mut [u64], used: usize, fills: bool, count: u64, value: u64) -> usize
     requires { ⌜ used ≤ length (now words) ⌝ }
     ensures { λ r. ⌜ r ≤ length (now (words .entry)) ⌝ }
