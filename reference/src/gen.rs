@@ -939,7 +939,8 @@ impl Generator {
         match self.rng.below(20) {
             0 => 0,
             1 => self.number(),
-            2..=9 => self.rng.between(1, 9),
+            2 => self.rng.pick(&[1, 2, 8, 1 << 62, (1 << 62) - 1, u64::MAX]),
+            3..=9 => self.rng.between(1, 9),
             _ => 1,
         }
     }

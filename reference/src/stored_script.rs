@@ -300,15 +300,28 @@ impl Script {
         self.copy(1, 6, &[1, 2, 3, 4]);
         self.copy(1, 9, &[1, 2, 3, 4]);
         self.copy(1, 12, &[]);
-        // 1 to 9 complete, none committed: force(9, 8) and force(8, 8).
+        // 1 to 9 complete, none committed: force(7, 8), then force(8, 8); another time force(9, 8); another time with 1 to 3
+        // committed before them.
+        self.nine_complete();
+        self.force(7, 8);
+        self.force(8, 8);
+        self.print_state();
+        self.nine_complete();
+        self.force(9, 8);
+        self.print_state();
+        self.nine_complete();
+        self.force(3, 1);
+        self.force(7, 8);
+        self.force(9, 8);
+        self.print_state();
+    }
+
+    fn nine_complete(&mut self) {
         self.fresh(100);
         for lsn in 1..=9 {
             self.reserve(17, 3);
             self.complete(lsn);
         }
-        self.force(9, 8);
-        self.force(8, 8);
-        self.print_state();
     }
 
     /// A limit exceeded, which ends the script.

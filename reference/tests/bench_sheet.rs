@@ -12,6 +12,7 @@ use reference::refusal::Refusal;
 use reference::state::State;
 
 /// Image, op buffer and state, with calls that give answer and ops.
+#[derive(Clone)]
 struct Log {
     image: Vec<u64>,
     op_buffer: Vec<u64>,
@@ -239,15 +240,39 @@ fn forcing_every_eighth() {
         log.reserve(1, 5).unwrap();
         log.complete(lsn).unwrap();
     }
+    assert_eq!(log.force(7, 8).unwrap(), (Forced::Deferred, vec![]));
+    let keeps = |log: &Log, lsn: u64, first: u64| {
+        let mut log = log.clone();
+        let (forced, ops) = log.force(lsn, 8).unwrap();
+        let kept = lsn - first + 1;
+        assert_eq!(forced, Forced::Durable);
+        assert_eq!(ops.len() as u64, 1 + 2 * kept);
+        assert_eq!(ops[0], flush(24 + 4 * (first - 1), 4 * kept + 1));
+        assert_eq!(log.state.committed_lsn, lsn);
+        let (records, end) = walk(&log.image).unwrap();
+        assert_eq!(records.len() as u64, lsn);
+        assert_eq!(end.lsn, lsn + 1);
+    };
+    keeps(&log, 8, 1);
+    // Change request 3: the eighth is in the stretch, so the ninth keeps nine.
+    keeps(&log, 9, 1);
+    // With 1 to 3 committed it keeps six, and the seventh is put off.
+    log.force(3, 1).unwrap();
+    assert_eq!(log.force(7, 8).unwrap(), (Forced::Deferred, vec![]));
+    keeps(&log, 9, 4);
+}
+
+#[test]
+fn a_multiple_at_the_committed_lsn_does_not_count() {
+    let mut log = Log::fresh(100);
+    for lsn in 1..=9 {
+        log.reserve(1, 5).unwrap();
+        log.complete(lsn).unwrap();
+    }
+    log.force(8, 8).unwrap();
     assert_eq!(log.force(9, 8).unwrap(), (Forced::Deferred, vec![]));
-    let (forced, ops) = log.force(8, 8).unwrap();
-    assert_eq!(forced, Forced::Durable);
-    assert_eq!(ops.len(), 1 + 8 + 8);
-    assert_eq!(ops[0], flush(24, 8 * 4 + 1));
-    assert_eq!(log.state.committed_lsn, 8);
-    let (records, end) = walk(&log.image).unwrap();
-    assert_eq!(records.len(), 8);
-    assert_eq!(end.lsn, 9);
+    assert_eq!(log.force(9, 1 << 62).unwrap(), (Forced::Deferred, vec![]));
+    assert_eq!(log.force(9, u64::MAX).unwrap(), (Forced::Deferred, vec![]));
 }
 
 // ---------------------------------------------------------------- loglist

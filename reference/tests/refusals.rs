@@ -368,7 +368,9 @@ fn refusal_11_not_ready() {
     refused(&machine, Command::Force { lsn: 6, frequency: 1 }, 11, 5);
     // Kept and put off come first.
     assert!(ok(&mut machine, Command::Force { lsn: 2, frequency: 1 }).numbers("kept").is_some());
-    assert!(ok(&mut machine, Command::Force { lsn: 6, frequency: 4 }).numbers("putoff").is_some());
+    assert!(ok(&mut machine, Command::Force { lsn: 6, frequency: 7 }).numbers("putoff").is_some());
+    // A multiple of the frequency before the LSN asks for the whole stretch.
+    refused(&machine, Command::Force { lsn: 6, frequency: 4 }, 11, 5);
 }
 
 // ---------------------------------------------------------------- 12 and 13: walking

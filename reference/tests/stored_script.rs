@@ -69,9 +69,25 @@ fn the_stored_lines_have_the_rows_of_the_bench_sheet() {
         .windows(rows.len())
         .position(|part| part.iter().zip(rows).all(|(line, row)| line.starts_with(row)));
     let behind = first.expect("the rows stand one behind another") + rows.len();
-    // 1 to 9 complete: the format, nine reserves, nine completes, the two forces, the state.
-    let forces = behind + 1 + 9 + 9;
-    assert!(lines[forces].starts_with("force putoff orders 0 "));
-    assert!(lines[forces + 1].starts_with("force kept orders 17 f 24 33 s 24 "));
-    assert!(lines[forces + 2].starts_with("state 100 0 1 36 10 8 "));
+    // 1 to 9 complete, three times: the format, nine reserves, nine completes, then forces and the state. Change request 3:
+    // the ninth keeps nine, or the six behind the third; the seventh is put off.
+    let nine = 1 + 9 + 9;
+    let mut at = behind + nine;
+    for starts in [
+        &["force putoff orders 0 ", "force kept orders 17 f 24 33 s 24 ", "state 100 0 1 36 10 8 "]
+            [..],
+        &["force kept orders 19 f 24 37 s 24 ", "state 100 0 1 36 10 9 "],
+        &[
+            "force kept orders 7 f 24 13 s 24 ",
+            "force putoff orders 0 ",
+            "force kept orders 13 f 36 25 s 36 ",
+            "state 100 0 1 36 10 9 ",
+        ],
+    ] {
+        for start in starts {
+            assert!(lines[at].starts_with(start), "{}", lines[at]);
+            at += 1;
+        }
+        at += nine;
+    }
 }
