@@ -1,23 +1,24 @@
 /* drivelog.h: the records of a drive's memory module, for C and C++.
  *
  * A program hands in the bytes of a module as they were copied, the image, and asks: how many records are listed, and for one of
- * them, counted from 0, its kind, its LSN (serial number) or its payload. Records that the drive has released are not listed. What
- * the bytes mean is in docs/FORMAT.md. Link with target/lib/libdrivelog.a, which `make lib` writes.
+ * them, counted from 0, its kind, its LSN (serial number) or its payload; or, in one pass, for a row of numbers of each. Records that
+ * the drive has released are not listed. What the bytes mean is in docs/FORMAT.md. Link with target/lib/libdrivelog.a, which `make lib` writes.
  *
- * Every call answers for every input, as document 01 and slip 1 of document 02 define it; that is proved. There is no set-up, no
- * handle and nothing to free. A call keeps nothing, allocates nothing and writes nowhere but to the output, so calls may run in
+ * Every call answers for every input, as document 01, slip 1 of document 02 and crates/query/specs define it; that is proved. There is no set-up, no
+ * handle and nothing to free. A call keeps nothing, allocates nothing and writes nowhere but to the output or the rows, so calls may run in
  * several threads at once as long as nobody writes the image meanwhile.
  *
- * Memory: `image` points to `bytes` bytes that can be read, `output` to `room` bytes that can be written. Neither needs any
- * alignment. Where the length is 0 the pointer is not followed and may be null. Image and output may not overlap.
+ * Memory: `image` points to `bytes` bytes that can be read, `output` to `room` bytes that can be written, `rows` to `room` words that
+ * can be written. Image and output need no alignment, rows that of uint64_t. Where the length is 0 the pointer is not followed and may
+ * be null. What is written may not overlap the image.
  *
  * Stack: a call takes at most 69,632 bytes (68 KB): the words of the largest image, 64 KB, whatever the size of this one, and less
  * than 4 KB more.
  *
- * Time: every call tests the superline, then reads the whole log and computes the check of every record, whatever it is asked; a
- * payload comes on top of that. On a full image of the largest size a call takes about 50 microseconds (docs/SPEED.md), so that to
- * ask one record at a time, count and then kind, LSN and payload of all 64, takes 193 calls and about 10 milliseconds. Ask only for what
- * is needed: kinds first, payloads of those that matter.
+ * Time: every call but drivelog_payload_at tests the superline, then reads the whole log and computes the check of every record,
+ * whatever it is asked; a payload comes on top of that. On a full image of the largest size a call takes about 50 microseconds
+ * (docs/SPEED.md), so that to ask one record at a time, count and then kind, LSN and payload of all 64, takes 193 calls and about 10
+ * milliseconds. To go through all records, ask drivelog_list once, and drivelog_payload_at for the payloads that matter.
  */
 
 #ifndef DRIVELOG_H
@@ -34,11 +35,12 @@ extern "C" {
  * first that fails decides; while the log is read, DRIVELOG_TOO_MANY is tested before DRIVELOG_DAMAGED at each record. */
 enum drivelog_refusal {
     DRIVELOG_IMAGE_SIZE = 1,      /* bytes is not a multiple of 8, or not 320 to 65,536 */
+    DRIVELOG_ARGUMENT = 3,        /* drivelog_payload_at only: no such position, or a length above 1,024 */
     DRIVELOG_SUPERLINE = 4,       /* the words that say where the log begins are wrong: no log, or one of another size */
     DRIVELOG_TOO_MANY = 13,       /* more than 64 records before the end */
     DRIVELOG_DAMAGED = 12,        /* a record is damaged; the whole list is refused, also what stands before the damage */
     DRIVELOG_NO_SUCH_RECORD = 16, /* index is not below the number of listed records */
-    DRIVELOG_OUTPUT_SHORT = 14    /* the payload is longer than room */
+    DRIVELOG_OUTPUT_SHORT = 14    /* the payload or the rows are longer than room */
 };
 
 enum drivelog_limit {
@@ -101,6 +103,38 @@ int64_t drivelog_payload(const uint8_t *image, size_t bytes, uint64_t index, uin
          int64_t length = drivelog_payload(image, bytes, 0, payload, sizeof payload);
          if (length >= 0)
              fwrite(payload, 1, (size_t)length, stdout);
+*/
+
+int64_t drivelog_list(const uint8_t *image, size_t bytes, uint64_t *rows, size_t room);
+/*
+     Writes a row of four words for each listed record, oldest first: its LSN, its kind, its length, and its position for
+   drivelog_payload_at. `room` is the number of words; 4 * DRIVELOG_MAX_RECORDS are always enough. The words behind the rows stay as
+   they are.
+
+     Returns the number of listed records, as drivelog_count does, or -DRIVELOG_OUTPUT_SHORT if room is below four times that number.
+   A call that declines leaves all of the rows as they are.
+
+     Example:
+
+         uint64_t rows[4 * DRIVELOG_MAX_RECORDS];
+         int64_t count = drivelog_list(image, bytes, rows, sizeof rows / sizeof rows[0]);
+         for (int64_t i = 0; i < count; i++)
+             printf("%llu: kind %llu\n", (unsigned long long)rows[4 * i], (unsigned long long)rows[4 * i + 1]);
+*/
+
+int64_t drivelog_payload_at(const uint8_t *image, size_t bytes, uint64_t pos, uint64_t length, uint8_t *output, size_t room);
+/*
+     Copies the payload of the record of `length` bytes at `pos` to the front of the output, which has room for `room` bytes: for a
+   row that drivelog_list wrote of the same bytes. What stands in the output behind the payload stays as it is. The call reads no log
+   and tests no record: of a position that is no record's it copies what stands there.
+
+     Returns the length, or -DRIVELOG_IMAGE_SIZE, -DRIVELOG_ARGUMENT, or -DRIVELOG_OUTPUT_SHORT if length is more than room. A call
+   that declines leaves all of the output as it is.
+
+     Example, with the rows from above:
+
+         uint8_t payload[DRIVELOG_MAX_PAYLOAD];
+         int64_t length = drivelog_payload_at(image, bytes, rows[4 * i + 3], rows[4 * i + 2], payload, sizeof payload);
 */
 
 #ifdef __cplusplus

@@ -19,6 +19,7 @@ const LIST: u64 = 4;
 const COUNT_RECORDS: u64 = 5;
 const ONE_RECORD: u64 = 6;
 const ALL_RECORDS: u64 = 7;
+const ALL_BY_LIST: u64 = 8;
 /// Release of the head, plus the number of released records behind it.
 const RELEASE: u64 = 1000;
 /// The same with an LSN that is not live: refused right behind the soundness test.
@@ -114,6 +115,7 @@ impl Case {
             COUNT_RECORDS => "the number of records",
             ONE_RECORD => "kind, LSN and payload of one record",
             ALL_RECORDS => "number, then kind, LSN and payload of all",
+            ALL_BY_LIST => "the list, then the payload of all",
             RELEASE..NOT_LIVE => "release",
             _ => "release of no live LSN",
         }
@@ -243,7 +245,7 @@ pub fn bench(programs: &Programs, rounds: usize, out: &mut impl Write) -> Result
         })
         .collect();
 
-    let c_calls = [COUNT_RECORDS, ONE_RECORD, ALL_RECORDS].map(|job| Case { job, ..full_image[0] });
+    let c_calls = [COUNT_RECORDS, ONE_RECORD, ALL_RECORDS, ALL_BY_LIST].map(|job| Case { job, ..full_image[0] });
 
     let proved = Program::new(programs.proved);
     let plain = Program::new(programs.plain);
@@ -397,7 +399,8 @@ fn print_c_calls(cases: &[Case], times: &Times, out: &mut impl Write) -> Result<
         let made = match case.job {
             COUNT_RECORDS => 1,
             ONE_RECORD => 3,
-            _ => 1 + 3 * FULL,
+            ALL_RECORDS => 1 + 3 * FULL,
+            _ => 1 + FULL,
         };
         let mut row = vec![case.call().to_string(), grouped(made)];
         row.extend(pair_cells(case, times));

@@ -92,6 +92,15 @@ impl Place {
         }
     }
 
+    /// The same, where words may stand.
+    fn of_words(self) -> Place {
+        match self {
+            Place::Null => Place::Null,
+            Place::Behind(gap) => Place::Behind(gap / 8 * 8),
+            Place::Before(gap) => Place::Before(gap / 8 * 8),
+        }
+    }
+
     /// At any address, and often at the very edge.
     fn any(rng: &mut Rng) -> Place {
         let gap = if rng.chance(1, 3) { 0 } else { rng.below(40) };
@@ -110,6 +119,10 @@ enum Request {
     Lsn(u64),
     /// The output, as it is before the call.
     Payload(u64, Vec<u8>, Place),
+    /// The rows, as they are before the call.
+    List(Vec<u64>, Place),
+    /// Position, length and the output.
+    PayloadAt(u64, u64, Vec<u8>, Place),
 }
 
 impl Request {
@@ -129,6 +142,14 @@ impl Request {
             Request::Payload(index, output, place) => {
                 let [place, gap] = place.words();
                 put(&[5, *index, output.len() as u64, place, gap], output);
+            }
+            Request::List(rows, place) => {
+                let [place, gap] = place.words();
+                put(&[6, rows.len() as u64, place, gap], &bytes_of(rows));
+            }
+            Request::PayloadAt(position, length, output, place) => {
+                let [place, gap] = place.words();
+                put(&[7, *position, *length, output.len() as u64, place, gap], output);
             }
         }
     }
@@ -159,6 +180,20 @@ impl Request {
                 let _ = writeln!(text, "payload {index} {room} {result} {data} kept");
                 ("payload", result)
             }
+            Request::List(rows, _) => {
+                let mut rows = rows.clone();
+                let result = query::list(image, &mut rows);
+                let (room, data) = (rows.len(), hex(&bytes_of(&rows)));
+                let _ = writeln!(text, "list {room} {result} {data} kept");
+                ("list", result)
+            }
+            Request::PayloadAt(position, length, output, _) => {
+                let mut output = output.clone();
+                let result = query::payload_at(image, *position, *length, &mut output);
+                let (room, data) = (output.len(), hex(&output));
+                let _ = writeln!(text, "payload_at {position} {length} {room} {result} {data} kept");
+                ("payload_at", result)
+            }
         };
         Some((call, result))
     }
@@ -178,8 +213,55 @@ fn requests(rng: &mut Rng, image: &[u8]) -> Vec<Request> {
                 requests.push(Request::Payload(index, rng.bytes(room), place));
             }
         }
+        for room in list_rooms(image) {
+            let null = room == 0 && rng.chance(1, 2);
+            let place = if null { Place::Null } else { Place::any(rng).of_words() };
+            let rows = (0..room).map(|_| rng.next_u64()).collect();
+            requests.push(Request::List(rows, place));
+        }
+        for (position, length, room) in places(rng, image) {
+            let place = if room == 0 { Place::Null } else { Place::any(rng) };
+            requests.push(Request::PayloadAt(position, length, rng.bytes(room), place));
+        }
     }
     requests
+}
+
+/// None, one word too few, just enough, three too many; a few where no list is due.
+fn list_rooms(image: &[u8]) -> Vec<u64> {
+    match query::count(image) {
+        count @ 0.. => {
+            let words = 4 * count as u64;
+            vec![0, words.saturating_sub(1), words, words + 3]
+        }
+        _ => vec![0, 3, 40],
+    }
+}
+
+/// Position, length and room: of the first, the last and any row, each just enough and one byte too few; of no record: any position
+/// and length, and the edges of both.
+fn places(rng: &mut Rng, image: &[u8]) -> Vec<(u64, u64, u64)> {
+    let mut places = Vec::new();
+    let count = query::count(image).max(0) as u64;
+    if count > 0 {
+        let mut rows = vec![0; 4 * count as usize];
+        query::list(image, &mut rows);
+        for index in [0, count - 1, rng.below(count)] {
+            let row = &rows[4 * index as usize..][..4];
+            let (length, position) = (row[2], row[3]);
+            places.extend([(position, length, length), (position, length, length.saturating_sub(1))]);
+        }
+    }
+    let area = (image.len() as u64 / 8).saturating_sub(24);
+    let any = rng.below(1_025);
+    places.push((rng.below(area.max(1)), any, any + 5));
+    places.extend([(area.saturating_sub(1), 1_024, 1_030), (area, 8, 8), (0, 1_025, 1_100)]);
+    places.extend([((1 << 32) + rng.below(area.max(1)), 8, 8), (u64::MAX, u64::MAX, 3), (0, (1 << 32) + 8, 8)]);
+    places
+}
+
+fn bytes_of(words: &[u64]) -> Vec<u8> {
+    words.iter().flat_map(|word| word.to_le_bytes()).collect()
 }
 
 /// First, last, any; then those that name no record: the next, and numbers whose lower bits name one.

@@ -9,11 +9,13 @@ use reference::samples::{full_image, samples};
 use std::collections::BTreeSet;
 
 /// What a call can answer: 0 stands for a value, the others are refusals.
-const REACHABLE: [(&str, &[u64]); 4] = [
+const REACHABLE: [(&str, &[u64]); 6] = [
     ("count", &[0, 1, 4, 12, 13]),
     ("kind", &[0, 1, 4, 12, 13, 16]),
     ("lsn", &[0, 1, 4, 12, 13, 16]),
     ("payload", &[0, 1, 4, 12, 13, 14, 16]),
+    ("list", &[0, 1, 4, 12, 13, 14]),
+    ("payload_at", &[0, 1, 3, 14]),
 ];
 
 /// What stands in an output before a call.

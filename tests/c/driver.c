@@ -6,11 +6,13 @@
  *     3 index                              drivelog_kind
  *     4 index                              drivelog_lsn
  *     5 index room place gap, then room bytes that the output holds before the call: drivelog_payload
+ *     6 room place gap, then room words that the rows hold before the call: drivelog_list
+ *     7 pos length room place gap, then room bytes that the output holds before the call: drivelog_payload_at
  * Place 0 is a null pointer, of length 0. Place 1 begins `gap` bytes behind a page that nobody may touch, place 2 ends `gap` bytes
  * before one, so that a byte read or written too far ends the program. The image's pages are read-only.
  *
- * Standard output, a line a call: its name, the numbers asked, and what it returned. Behind that, for the payload: all of the output
- * as hex pairs ("-" if there is none), and `kept` or `touched` for the bytes around it. Input that is not of this form: status 2. */
+ * Standard output, a line a call: its name, the numbers asked, and what it returned. Behind that, for a payload or a list: all of the
+ * output as hex pairs ("-" if there is none), and `kept` or `touched` for the bytes around it. Input that is not of this form: status 2. */
 
 #define _DEFAULT_SOURCE
 #include "drivelog.h"
@@ -84,16 +86,42 @@ static int kept_around(struct lent lent)
     return 1;
 }
 
+/* The end of a line: what a call left in the output, and around it. */
+static void show(struct lent output)
+{
+    for (size_t i = 0; i < output.count; i++)
+        printf("%02x", output.bytes[i]);
+    printf("%s %s\n", output.count == 0 ? "-" : "", kept_around(output) ? "kept" : "touched");
+    give_back(output);
+}
+
 static void payload(struct lent image)
 {
     uint64_t index = word(), room = word(), place = word(), gap = word();
     struct lent output = lend(room, place, gap);
     int64_t result = drivelog_payload(image.bytes, image.count, index, output.bytes, output.count);
     printf("payload %" PRIu64 " %" PRIu64 " %" PRId64 " ", index, room, result);
-    for (size_t i = 0; i < output.count; i++)
-        printf("%02x", output.bytes[i]);
-    printf("%s %s\n", output.count == 0 ? "-" : "", kept_around(output) ? "kept" : "touched");
-    give_back(output);
+    show(output);
+}
+
+static void list(struct lent image)
+{
+    uint64_t room = word(), place = word(), gap = word();
+    if (room > MOST_BYTES / 8 || gap % 8 != 0)
+        fail("words at a place that no request has");
+    struct lent output = lend(8 * room, place, gap);
+    int64_t result = drivelog_list(image.bytes, image.count, (uint64_t *)(void *)output.bytes, output.count / 8);
+    printf("list %" PRIu64 " %" PRId64 " ", room, result);
+    show(output);
+}
+
+static void payload_at(struct lent image)
+{
+    uint64_t pos = word(), length = word(), room = word(), place = word(), gap = word();
+    struct lent output = lend(room, place, gap);
+    int64_t result = drivelog_payload_at(image.bytes, image.count, pos, length, output.bytes, output.count);
+    printf("payload_at %" PRIu64 " %" PRIu64 " %" PRIu64 " %" PRId64 " ", pos, length, room, result);
+    show(output);
 }
 
 int main(void)
@@ -122,6 +150,12 @@ int main(void)
             break;
         case 5:
             payload(image);
+            break;
+        case 6:
+            list(image);
+            break;
+        case 7:
+            payload_at(image);
             break;
         default:
             fail("no such request");

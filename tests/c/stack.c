@@ -15,6 +15,7 @@
 enum { STACK = 1 << 20, PAINT = 0xA7 };
 
 static uint8_t image[DRIVELOG_MAX_IMAGE], output[DRIVELOG_MAX_PAYLOAD];
+static uint64_t rows[4 * DRIVELOG_MAX_RECORDS];
 static size_t bytes;
 
 static int64_t nothing(void) { return 0; }
@@ -22,6 +23,8 @@ static int64_t count(void) { return drivelog_count(image, bytes); }
 static int64_t kind(void) { return drivelog_kind(image, bytes, 0); }
 static int64_t lsn(void) { return drivelog_lsn(image, bytes, 0); }
 static int64_t payload(void) { return drivelog_payload(image, bytes, 0, output, sizeof output); }
+static int64_t list(void) { return drivelog_list(image, bytes, rows, sizeof rows / sizeof rows[0]); }
+static int64_t payload_at(void) { return drivelog_payload_at(image, bytes, rows[3], rows[2], output, sizeof output); }
 
 struct call {
     const char *name;
@@ -57,7 +60,8 @@ static size_t used_by(struct call *call)
 
 int main(int argc, char **argv)
 {
-    struct call calls[] = {{"count", count, 0}, {"kind", kind, 0}, {"lsn", lsn, 0}, {"payload", payload, 0}};
+    struct call calls[] = {{"count", count, 0}, {"kind", kind, 0}, {"lsn", lsn, 0}, {"payload", payload, 0}, {"list", list, 0},
+                           {"payload_at", payload_at, 0}};
     struct call idle = {"nothing", nothing, 0};
     FILE *file = argc == 3 ? fopen(argv[2], "rb") : NULL;
     if (file == NULL) {

@@ -85,7 +85,7 @@ fn main() -> io::Result<()> {
     }
     let (numbers, _) = input.as_chunks();
     let [job, bytes, live, count, words] = std::array::from_fn(|i| u64::from_le_bytes(numbers[i]));
-    if (5..=7).contains(&job) {
+    if (5..=8).contains(&job) {
         let mut image = Vec::new();
         io::stdin().lock().take(8 * words).read_to_end(&mut image)?;
         if let Some((time, digest)) = query(job, count, &image) {
@@ -111,7 +111,7 @@ fn query(job: u64, count: u64, image: &[u8]) -> Option<(i64, u64)> {
             found.clear();
             let mut index = 0;
             let done = plain::listed(black_box(image), |record| {
-                if job == 7 || job == 6 && index == last {
+                if job >= 7 || job == 6 && index == last {
                     found.extend_from_slice(&u64::from(record.kind).to_le_bytes());
                     found.extend_from_slice(&record.lsn.to_le_bytes());
                     found.extend_from_slice(record.payload.0);
