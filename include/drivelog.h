@@ -1,10 +1,11 @@
 /* drivelog.h: the records of a drive's memory module, for C and C++.
  *
  * A program hands in the bytes of a module as they were copied, the image, and asks: how many records are listed, and for one of
- * them, counted from 0, its kind, its LSN (serial number) or its payload; or, in one pass, for a row of numbers of each. Records that
+ * them, counted from 0, its kind, its LSN (serial number) or its payload; or, in one pass, for a row of numbers of each; or which test a
+ * damaged record fails. Records that
  * the drive has released are not listed. What the bytes mean is in docs/FORMAT.md. Link with target/lib/libdrivelog.a, which `make lib` writes.
  *
- * Every call answers for every input, as document 01, slip 1 of document 02 and crates/query/specs define it; that is proved. There is no set-up, no
+ * Every call answers for every input, as document 01, slips 1 and 4 of document 02 and crates/query/specs define it; that is proved. There is no set-up, no
  * handle and nothing to free. A call keeps nothing, allocates nothing and writes nowhere but to the output or the rows, so calls may run in
  * several threads at once as long as nobody writes the image meanwhile.
  *
@@ -62,6 +63,28 @@ int64_t drivelog_count(const uint8_t *image, size_t bytes);
          if (count < 0)
              fprintf(stderr, "refused %d\n", (int)-count);
 */
+
+int64_t drivelog_damage(const uint8_t *image, size_t bytes);
+/*
+     Why drivelog_count returns -DRIVELOG_DAMAGED: the first test that the damaged record fails, so that a bad cell can be told from
+   a bad copy. The tests of a record run in the order of the enum below.
+
+     Returns the number of the test, or 0 if the log reaches its end, or -DRIVELOG_IMAGE_SIZE, -DRIVELOG_SUPERLINE or
+   -DRIVELOG_TOO_MANY.
+
+     Example:
+
+         if (drivelog_damage(image, bytes) == DRIVELOG_TEST_CHECK)
+             puts("a bit is wrong in a record or in its check");
+*/
+enum drivelog_test {
+    DRIVELOG_TEST_MARK = 1,   /* the mark is above 2 */
+    DRIVELOG_TEST_KIND = 2,   /* the kind is 0 */
+    DRIVELOG_TEST_LENGTH = 3, /* the length is above 1,024 */
+    DRIVELOG_TEST_FIT = 4,    /* with the records before it, the record does not fit the log */
+    DRIVELOG_TEST_LSN = 5,    /* the LSN is not the expected one, or out of range */
+    DRIVELOG_TEST_CHECK = 6   /* the check is not that of the record */
+};
 
 int64_t drivelog_kind(const uint8_t *image, size_t bytes, uint64_t index);
 /*

@@ -245,7 +245,8 @@ pub fn bench(programs: &Programs, rounds: usize, out: &mut impl Write) -> Result
         })
         .collect();
 
-    let c_calls = [COUNT_RECORDS, ONE_RECORD, ALL_RECORDS, ALL_BY_LIST].map(|job| Case { job, ..full_image[0] });
+    let c_calls = [COUNT_RECORDS, ONE_RECORD, ALL_RECORDS, ALL_BY_LIST]
+        .map(|job| Case { job, ..full_image[0] });
 
     let proved = Program::new(programs.proved);
     let plain = Program::new(programs.plain);

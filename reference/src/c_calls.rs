@@ -123,6 +123,7 @@ enum Request {
     List(Vec<u64>, Place),
     /// Position, length and the output.
     PayloadAt(u64, u64, Vec<u8>, Place),
+    Damage,
 }
 
 impl Request {
@@ -151,6 +152,7 @@ impl Request {
                 let [place, gap] = place.words();
                 put(&[7, *position, *length, output.len() as u64, place, gap], output);
             }
+            Request::Damage => put(&[8], &[]),
         }
     }
 
@@ -191,8 +193,14 @@ impl Request {
                 let mut output = output.clone();
                 let result = query::payload_at(image, *position, *length, &mut output);
                 let (room, data) = (output.len(), hex(&output));
-                let _ = writeln!(text, "payload_at {position} {length} {room} {result} {data} kept");
+                let _ =
+                    writeln!(text, "payload_at {position} {length} {room} {result} {data} kept");
                 ("payload_at", result)
+            }
+            Request::Damage => {
+                let result = query::damage(image);
+                let _ = writeln!(text, "damage {result}");
+                ("damage", result)
             }
         };
         Some((call, result))
@@ -204,7 +212,7 @@ fn requests(rng: &mut Rng, image: &[u8]) -> Vec<Request> {
     let first = if image.is_empty() { Place::Null } else { Place::Before(0) };
     let mut requests = Vec::new();
     for place in [first, Place::any(rng)] {
-        requests.extend([Request::Image(place), Request::Count]);
+        requests.extend([Request::Image(place), Request::Count, Request::Damage]);
         for index in indices(rng, image) {
             requests.extend([Request::Kind(index), Request::Lsn(index)]);
             for room in rooms(image, index) {
@@ -249,14 +257,19 @@ fn places(rng: &mut Rng, image: &[u8]) -> Vec<(u64, u64, u64)> {
         for index in [0, count - 1, rng.below(count)] {
             let row = &rows[4 * index as usize..][..4];
             let (length, position) = (row[2], row[3]);
-            places.extend([(position, length, length), (position, length, length.saturating_sub(1))]);
+            places
+                .extend([(position, length, length), (position, length, length.saturating_sub(1))]);
         }
     }
     let area = (image.len() as u64 / 8).saturating_sub(24);
     let any = rng.below(1_025);
     places.push((rng.below(area.max(1)), any, any + 5));
     places.extend([(area.saturating_sub(1), 1_024, 1_030), (area, 8, 8), (0, 1_025, 1_100)]);
-    places.extend([((1 << 32) + rng.below(area.max(1)), 8, 8), (u64::MAX, u64::MAX, 3), (0, (1 << 32) + 8, 8)]);
+    places.extend([
+        ((1 << 32) + rng.below(area.max(1)), 8, 8),
+        (u64::MAX, u64::MAX, 3),
+        (0, (1 << 32) + 8, 8),
+    ]);
     places
 }
 

@@ -601,7 +601,7 @@ fn expect_recovered(answer: &Answer) -> Result<(), String> {
 }
 
 fn expect_short(answer: &Answer) -> Result<(), String> {
-    let expected = Outcome::Refused { number: 15, detail: RECOVER_WORDS };
+    let expected = Outcome::Refused { number: 15, detail: RECOVER_WORDS, test: None };
     if answer.outcome != expected || !answer.ops.is_empty() {
         return Err(format!("take up with too short an op buffer answers {:?}", answer.outcome));
     }

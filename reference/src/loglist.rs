@@ -37,7 +37,9 @@ fn list(bytes: &[u8]) -> Result<String, Refusal> {
                 cursor = behind;
             }
             Ok(Next::End { lsn }) => break format!("end {lsn}\n"),
-            Err(Refusal::Damaged { lsn }) => break format!("damaged {lsn}\n"),
+            Err(Refusal::Damaged { lsn, test }) => {
+                break format!("damaged {lsn} {}\n", test.word());
+            }
             Err(Refusal::TooMany { lsn }) => break format!("toomany {lsn}\n"),
             Err(refusal) => return Err(refusal),
         }

@@ -1,4 +1,4 @@
-//! The table "When a call declines", and refusal 16 of document 02.
+//! The table "When a call declines", refusal 16 of document 02, and the tests that slip 4 has refusal 12 name.
 
 /// Why a call declined. Its number and detail are those of the documents.
 #[derive(Clone, Copy, Debug, PartialEq, Eq)]
@@ -24,8 +24,10 @@ pub enum Refusal {
     NotReady {
         lsn: u64,
     },
+    /// The record expected under `lsn` fails `test`, and passes those before it.
     Damaged {
         lsn: u64,
+        test: RecordTest,
     },
     TooMany {
         lsn: u64,
@@ -62,10 +64,55 @@ impl Refusal {
 
     pub fn detail(self) -> u64 {
         match self {
-            Refusal::NotReady { lsn } | Refusal::Damaged { lsn } | Refusal::TooMany { lsn } => lsn,
+            Refusal::NotReady { lsn } | Refusal::Damaged { lsn, .. } | Refusal::TooMany { lsn } => {
+                lsn
+            }
             Refusal::OpBufferShort { needed } => needed,
             _ => 0,
         }
+    }
+
+    /// The test that refusal 12 names.
+    pub fn record_test(self) -> Option<RecordTest> {
+        match self {
+            Refusal::Damaged { test, .. } => Some(test),
+            _ => None,
+        }
+    }
+}
+
+/// The tests of a marked record, in their order.
+#[derive(Clone, Copy, Debug, PartialEq, Eq, PartialOrd, Ord)]
+pub enum RecordTest {
+    Mark,
+    Kind,
+    Length,
+    Fit,
+    Lsn,
+    Check,
+}
+
+impl RecordTest {
+    pub const ALL: [RecordTest; 6] = [
+        RecordTest::Mark,
+        RecordTest::Kind,
+        RecordTest::Length,
+        RecordTest::Fit,
+        RecordTest::Lsn,
+        RecordTest::Check,
+    ];
+
+    /// Counted from 1.
+    pub fn number(self) -> u64 {
+        self as u64 + 1
+    }
+
+    pub fn of_word(word: &str) -> Option<RecordTest> {
+        RecordTest::ALL.into_iter().find(|test| test.word() == word)
+    }
+
+    pub fn word(self) -> &'static str {
+        ["mark", "kind", "length", "fit", "LSN", "check"][self as usize]
     }
 }
 

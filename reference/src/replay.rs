@@ -200,7 +200,8 @@ impl Machine {
 }
 
 fn refused(refusal: Refusal) -> String {
-    format!("refused {} {}", refusal.number(), refusal.detail())
+    let test = refusal.record_test().map_or(String::new(), |test| format!(" {}", test.word()));
+    format!("refused {} {}{test}", refusal.number(), refusal.detail())
 }
 
 /// The state becomes the one the call gave.

@@ -88,14 +88,17 @@ impl Written {
         self.image.iter().flat_map(|word| word.to_le_bytes()).collect()
     }
 
-    /// The listing with its first so many lines and this last line.
+    /// The listing with its first so many lines and this last line, its LSN behind the first word of it.
     fn text(&self, lines: usize, last: &str, lsn: u64) -> String {
         let mut text = format!("{HEADING}\n");
         for line in &self.lines[..lines] {
             text += line;
             text.push('\n');
         }
-        text + &format!("{last} {lsn}\n")
+        match last.split_once(' ') {
+            None => text + &format!("{last} {lsn}\n"),
+            Some((first, test)) => text + &format!("{first} {lsn} {test}\n"),
+        }
     }
 
     fn ends(&self, records: usize) -> String {
@@ -162,31 +165,50 @@ fn listings() -> Vec<Sample> {
     samples
 }
 
-/// The second of three records damaged in one way.
+/// The second of three records fails each test alone, and each test with all behind it; and some more ways.
 fn damage() -> Vec<Sample> {
     let records: Vec<Record> = (0..3).map(|i| record(5, MARK_COMMITTED, &[i; 9])).collect();
     let good = Header { length: 9, kind: 5, mark: MARK_COMMITTED };
     let mut samples = Vec::new();
-    let mut broken = |name: &str, word: u64, value: u64| {
-        let mut written = Written::new(60, 0, 20, &records);
-        let position = written.positions[1];
-        *written.word(position, word) = value;
-        samples.push(sample(
-            format!("damaged-{name}"),
-            written.bytes(),
-            written.text(1, "damaged", 21),
-        ));
-    };
-    broken("mark", 0, Header { mark: 3, ..good }.word());
-    broken("kind", 0, Header { kind: 0, ..good }.word());
-    broken("length", 0, Header { length: 1_025, ..good }.word());
-    broken("fit", 0, Header { length: 200, ..good }.word());
-    broken("lsn", 1, 22);
-    broken("check", 2, 0);
-    broken("payload", 3, 1);
+    // 36 words of ring, used from position 0 on; 1,025 bytes fit only a longer one.
+    let mut broken =
+        |name: &str, words: usize, header: Header, lsn: u64, check_bits: u64, test: &str| {
+            let mut written = Written::new(words, 0, 20, &records);
+            let position = written.positions[1];
+            *written.word(position, 0) = header.word();
+            *written.word(position, 1) = lsn;
+            // The check that is expected of this record, some bits of it changed.
+            let length = header.length.min(2_000);
+            let payload: Vec<u8> = written.ring.payload(&written.image, position, length).collect();
+            let check = record_check(header.length, header.kind, 21, payload.into_iter());
+            *written.word(position, 2) = check ^ check_bits;
+            samples.push(sample(
+                format!("damaged-{name}"),
+                written.bytes(),
+                written.text(1, &format!("damaged {test}"), 21),
+            ));
+        };
+    let beyond = Header { length: 8 * (36 - 5 - 3), ..good }; // one word too many: no place for the terminator
+    broken("mark-alone", 60, Header { mark: 3, ..good }, 21, 0, "mark");
+    broken("kind-alone", 60, Header { kind: 0, ..good }, 21, 0, "kind");
+    broken("length-alone", 300, Header { length: 1_025, ..good }, 21, 0, "length");
+    broken("fit-alone", 60, beyond, 21, 0, "fit");
+    broken("lsn-alone", 60, good, 22, 0, "LSN");
+    broken("check-alone", 60, good, 21, 1, "check");
+    let all = Header { length: 4_000, kind: 0, mark: 3 };
+    broken("mark-and-all-behind", 60, all, 22, 1, "mark");
+    broken("kind-and-all-behind", 60, Header { mark: MARK_RELEASED, ..all }, 22, 1, "kind");
+    broken("length-and-all-behind", 60, Header { length: 4_000, ..good }, 22, 1, "length");
+    broken("fit-and-all-behind", 60, beyond, 22, 1, "fit");
+    broken("lsn-and-all-behind", 60, good, 0, 1, "LSN");
+    broken("largest-mark", 60, Header { mark: 65_535, ..good }, 21, 0, "mark");
     // The check's word is whole: a set upper half is damage too.
-    let check = record_check(9, 5, 21, [1; 9].into_iter());
-    broken("check-upper-half", 2, check | 1 << 32);
+    broken("check-upper-half", 60, good, 21, 1 << 32, "check");
+
+    let mut written = Written::new(60, 0, 20, &records);
+    let position = written.positions[1];
+    *written.word(position, 3) = 1;
+    samples.push(sample("damaged-payload", written.bytes(), written.text(1, "damaged check", 21)));
 
     // An LSN above its range, with a good check.
     let mut written = Written::new(40, 0, LSN_LIMIT, &[record(1, MARK_COMMITTED, &[])]);
@@ -194,7 +216,7 @@ fn damage() -> Vec<Sample> {
     samples.push(sample(
         "damaged-lsn-range",
         written.bytes(),
-        written.text(0, "damaged", LSN_LIMIT),
+        written.text(0, "damaged LSN", LSN_LIMIT),
     ));
 
     // Padding behind the payload is not tested.

@@ -1,6 +1,7 @@
 //! Scripts of the test program: commands as words, answers as lines. The format is REPLAY.md's.
 
 use crate::ops::Op;
+use crate::refusal::RecordTest;
 
 pub const MAX_SCRIPT_IMAGE: u64 = 9_000;
 pub const MAX_SCRIPT_OP_BUFFER: u64 = 26_000;
@@ -151,12 +152,11 @@ pub enum Outcome {
     Refused {
         number: u64,
         detail: u64,
+        /// The test that refusal 12 names.
+        test: Option<RecordTest>,
     },
     /// `ok`, `kept`, `putoff`, `record` or `end`, with the numbers behind it.
-    Done {
-        word: String,
-        numbers: Vec<u64>,
-    },
+    Done { word: String, numbers: Vec<u64> },
 }
 
 /// The line of one of the eleven calls, read back.
@@ -187,7 +187,17 @@ impl Answer {
             tokens.next();
         }
         let outcome = match (word.as_str(), numbers.as_slice()) {
-            ("refused", &[number, detail]) => Outcome::Refused { number, detail },
+            ("refused", &[number, detail]) => {
+                let test = tokens.peek().and_then(|token| RecordTest::of_word(token));
+                if test.is_some() {
+                    tokens.next();
+                }
+                // Refusal 12 has one, and no other has.
+                if test.is_some() != (number == 12) {
+                    return None;
+                }
+                Outcome::Refused { number, detail, test }
+            }
             ("refused", _) => return None,
             ("ok" | "kept" | "putoff" | "record" | "end", _) => Outcome::Done { word, numbers },
             _ => return None,

@@ -6,7 +6,7 @@
 use crate::calls::{self, Cursor, Done, Forced, Next};
 use crate::layout::MARK_RELEASED;
 use crate::ops::Op;
-use crate::refusal::Refusal;
+use crate::refusal::{RecordTest, Refusal};
 use crate::state::State;
 
 #[derive(Clone, Copy, Debug, PartialEq, Eq)]
@@ -46,7 +46,9 @@ pub fn next(shortcut: Option<Shortcut>, image: &[u64], cursor: &Cursor) -> Resul
         {
             Ok(Next::End { lsn: record.lsn })
         }
-        (Some(Shortcut::UnsetMarkIsDamage), Next::End { lsn }) => Err(Refusal::Damaged { lsn }),
+        (Some(Shortcut::UnsetMarkIsDamage), Next::End { lsn }) => {
+            Err(Refusal::Damaged { lsn, test: RecordTest::Mark })
+        }
         _ => Ok(found),
     }
 }

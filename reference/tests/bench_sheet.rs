@@ -303,7 +303,7 @@ fn loglist_other_endings() {
 
     let mut damaged = log.image.clone();
     damaged[24 + 7] = 9; // the LSN of record 3
-    assert_eq!(loglist(&bytes(&damaged)), format!("{heading}1 1 0 -\ndamaged 3\n"));
+    assert_eq!(loglist(&bytes(&damaged)), format!("{heading}1 1 0 -\ndamaged 3 LSN\n"));
 
     for lsn in 4..=64 {
         log.reserve(lsn, 0).unwrap();

@@ -4,13 +4,14 @@
 use reference::c_calls::{all_images, ask};
 use reference::demo::demo;
 use reference::images::{self, SORTS};
-use reference::query::{count, kind, lsn, payload};
+use reference::query::{count, damage, kind, lsn, payload};
 use reference::samples::{full_image, samples};
 use std::collections::BTreeSet;
 
 /// What a call can answer: 0 stands for a value, the others are refusals.
-const REACHABLE: [(&str, &[u64]); 6] = [
+const REACHABLE: [(&str, &[u64]); 7] = [
     ("count", &[0, 1, 4, 12, 13]),
+    ("damage", &[0, 1, 4, 13]),
     ("kind", &[0, 1, 4, 12, 13, 16]),
     ("lsn", &[0, 1, 4, 12, 13, 16]),
     ("payload", &[0, 1, 4, 12, 13, 14, 16]),
@@ -167,6 +168,19 @@ fn every_sort_of_image_is_what_its_name_says() {
         };
         assert!(owed(name).contains(&met), "seed {seed}, {name}: {met}");
     }
+}
+
+/// Images are damaged in each of the six ways, and the counting call says no more than 12 of them.
+#[test]
+fn every_test_is_named() {
+    let mut named = BTreeSet::new();
+    for (_, name, bytes) in all_images(1, SORTS.len() as u64) {
+        let test = damage(&bytes);
+        assert_eq!(test > 0, count(&bytes) == -12, "{name}");
+        assert_eq!(test == 0, count(&bytes) >= 0, "{name}");
+        named.insert(test.max(0));
+    }
+    assert_eq!(named, (0..=6).collect());
 }
 
 /// As many seeds as there are sorts meet, with the samples, every answer of every call and no other.

@@ -3,6 +3,7 @@
 
 use reference::calls::{self, Cursor, Next};
 use reference::layout::{Header, Superline, LSN_LIMIT, MARK_COMMITTED, MAX_EPOCH, TABLE_SIZE};
+use reference::refusal::RecordTest;
 use reference::replay::Machine;
 use reference::script::{Answer, Command, Outcome};
 use reference::state::{Entry, Stage, State};
@@ -45,9 +46,21 @@ fn ok(machine: &mut Machine, call: Command) -> Answer {
 /// The call is refused so, and image, op buffer, state and cursor stay as they were.
 #[track_caller]
 fn refused(machine: &Machine, call: Command, number: u64, detail: u64) {
+    refused_by(machine, call, number, detail, None);
+}
+
+/// The same, with the test that refusal 12 names.
+#[track_caller]
+fn refused_by(
+    machine: &Machine,
+    call: Command,
+    number: u64,
+    detail: u64,
+    test: Option<RecordTest>,
+) {
     let mut after = machine.clone();
     let answer = run(&mut after, &call);
-    assert_eq!(answer.outcome, Outcome::Refused { number, detail }, "{call:?}");
+    assert_eq!(answer.outcome, Outcome::Refused { number, detail, test }, "{call:?}");
     assert!(answer.ops.is_empty());
     assert_eq!(after.image, machine.image);
     assert_eq!(after.op_buffer, machine.op_buffer);
@@ -377,7 +390,7 @@ fn refusal_11_not_ready() {
 
 /// The walk on this image is refused so, by next and by recover.
 #[track_caller]
-fn walk_refused(machine: &Machine, number: u64, lsn: u64) {
+fn walk_refused(machine: &Machine, number: u64, lsn: u64, test: Option<RecordTest>) {
     let mut cursor = calls::open(&machine.image).unwrap();
     let refusal = loop {
         match calls::next(&machine.image, &cursor) {
@@ -386,11 +399,13 @@ fn walk_refused(machine: &Machine, number: u64, lsn: u64) {
             Err(refusal) => break refusal,
         }
     };
-    assert_eq!((refusal.number(), refusal.detail()), (number, lsn));
-    refused(&but(machine, |machine| machine.cursor = cursor), Command::Next, number, lsn);
-    refused(machine, Command::Recover, number, lsn);
+    assert_eq!((refusal.number(), refusal.detail(), refusal.record_test()), (number, lsn, test));
+    let at_record = but(machine, |machine| machine.cursor = cursor);
+    refused_by(&at_record, Command::Next, number, lsn, test);
+    refused_by(machine, Command::Recover, number, lsn, test);
     // Damage hides a short op buffer.
-    refused(&but(machine, |machine| machine.op_buffer.clear()), Command::Recover, number, lsn);
+    let short = but(machine, |machine| machine.op_buffer.clear());
+    refused_by(&short, Command::Recover, number, lsn, test);
 }
 
 /// Sets word 0 of the record at `position` and the check that fits it.
@@ -409,23 +424,43 @@ fn refusal_12_damaged() {
     // Record 3 is at position 10, its header is of length 12 and kind 43.
     let good = Header { length: 12, kind: 43, mark: MARK_COMMITTED };
     assert_eq!(machine.image[24 + 10], good.word());
-    for header in [
-        Header { mark: 3, ..good },
-        Header { mark: 65_535, ..good },
-        Header { kind: 0, ..good },
-        Header { length: 1_025, ..good },
-        Header { length: 8 * (100 - 10 - 1 - 3) + 1, ..good }, // used + size + 1 = C + 1
+    for (header, test) in [
+        (Header { mark: 3, ..good }, RecordTest::Mark),
+        (Header { mark: 65_535, ..good }, RecordTest::Mark),
+        (Header { kind: 0, ..good }, RecordTest::Kind),
+        (Header { length: 1_025, ..good }, RecordTest::Length),
+        // used + size + 1 = C + 1
+        (Header { length: 8 * (100 - 10 - 1 - 3) + 1, ..good }, RecordTest::Fit),
     ] {
-        walk_refused(&but(&machine, |machine| set_header(machine, 10, 3, header)), 12, 3);
+        let changed = but(&machine, |machine| set_header(machine, 10, 3, header));
+        walk_refused(&changed, 12, 3, Some(test));
     }
     for lsn in [0, 2, 4, u64::MAX] {
-        walk_refused(&but(&machine, |machine| set_header(machine, 10, lsn, good)), 12, 3);
+        let changed = but(&machine, |machine| set_header(machine, 10, lsn, good));
+        walk_refused(&changed, 12, 3, Some(RecordTest::Lsn));
     }
-    // One bit of length, kind, LSN, check (its upper half too) or payload.
-    for (word, bits) in [(34, 0..48), (35, 0..64), (36, 0..64), (37, 0..64), (38, 0..32)] {
+    // One bit of the LSN, of the check (its upper half too) or of the payload.
+    for (word, bits, test) in [
+        (35, 0..64, RecordTest::Lsn),
+        (36, 0..64, RecordTest::Check),
+        (37, 0..64, RecordTest::Check),
+        (38, 0..32, RecordTest::Check),
+    ] {
         for bit in bits {
-            walk_refused(&but(&machine, |machine| machine.image[word] ^= 1 << bit), 12, 3);
+            let changed = but(&machine, |machine| machine.image[word] ^= 1 << bit);
+            walk_refused(&changed, 12, 3, Some(test));
         }
+    }
+    // One bit of the length, 12 before, or of the kind, 43 before.
+    for bit in 0..48 {
+        let test = match bit {
+            0..=9 if 12 ^ (1 << bit) < 700 => RecordTest::Check, // 86 payload words are left
+            0..=9 => RecordTest::Fit,
+            10..=31 => RecordTest::Length,
+            _ => RecordTest::Check,
+        };
+        let changed = but(&machine, |machine| machine.image[34] ^= 1 << bit);
+        walk_refused(&changed, 12, 3, Some(test));
     }
     // Padding is not looked at.
     let padded = but(&machine, |machine| machine.image[38] |= 1 << 40);
@@ -437,7 +472,7 @@ fn refusal_12_lsn_above_its_range() {
     let marked = but(&with_numbers(LSN_LIMIT, 1), |machine| {
         set_header(machine, 0, LSN_LIMIT, Header { length: 0, kind: 1, mark: MARK_COMMITTED });
     });
-    walk_refused(&marked, 12, LSN_LIMIT);
+    walk_refused(&marked, 12, LSN_LIMIT, Some(RecordTest::Lsn));
     let (records, end) = calls::walk(&with_numbers(LSN_LIMIT, 1).image).unwrap();
     assert!(records.is_empty());
     assert_eq!(end.lsn, LSN_LIMIT);
@@ -448,9 +483,9 @@ fn refusal_13_too_many() {
     let machine = full_table(1_000);
     assert_eq!(calls::walk(&machine.image).unwrap().0.len(), 64);
     let good = Header { length: 0, kind: 1, mark: MARK_COMMITTED };
-    walk_refused(&but(&machine, |machine| set_header(machine, 192, 65, good)), 13, 65);
+    walk_refused(&but(&machine, |machine| set_header(machine, 192, 65, good)), 13, 65, None);
     // Before 12, but not before the end.
-    walk_refused(&but(&machine, |machine| machine.image[24 + 192] = u64::MAX), 13, 65);
+    walk_refused(&but(&machine, |machine| machine.image[24 + 192] = u64::MAX), 13, 65, None);
     let unmarked = but(&machine, |machine| machine.image[24 + 192] = u64::MAX >> 16);
     assert!(calls::walk(&unmarked.image).is_ok());
 }

@@ -8,6 +8,7 @@
  *     5 index room place gap, then room bytes that the output holds before the call: drivelog_payload
  *     6 room place gap, then room words that the rows hold before the call: drivelog_list
  *     7 pos length room place gap, then room bytes that the output holds before the call: drivelog_payload_at
+ *     8                                    drivelog_damage
  * Place 0 is a null pointer, of length 0. Place 1 begins `gap` bytes behind a page that nobody may touch, place 2 ends `gap` bytes
  * before one, so that a byte read or written too far ends the program. The image's pages are read-only.
  *
@@ -156,6 +157,9 @@ int main(void)
             break;
         case 7:
             payload_at(image);
+            break;
+        case 8:
+            printf("damage %" PRId64 "\n", drivelog_damage(image.bytes, image.count));
             break;
         default:
             fail("no such request");

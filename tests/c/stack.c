@@ -20,6 +20,7 @@ static size_t bytes;
 
 static int64_t nothing(void) { return 0; }
 static int64_t count(void) { return drivelog_count(image, bytes); }
+static int64_t damage(void) { return drivelog_damage(image, bytes); }
 static int64_t kind(void) { return drivelog_kind(image, bytes, 0); }
 static int64_t lsn(void) { return drivelog_lsn(image, bytes, 0); }
 static int64_t payload(void) { return drivelog_payload(image, bytes, 0, output, sizeof output); }
@@ -60,7 +61,7 @@ static size_t used_by(struct call *call)
 
 int main(int argc, char **argv)
 {
-    struct call calls[] = {{"count", count, 0}, {"kind", kind, 0}, {"lsn", lsn, 0}, {"payload", payload, 0}, {"list", list, 0},
+    struct call calls[] = {{"count", count, 0}, {"damage", damage, 0}, {"kind", kind, 0}, {"lsn", lsn, 0}, {"payload", payload, 0}, {"list", list, 0},
                            {"payload_at", payload_at, 0}};
     struct call idle = {"nothing", nothing, 0};
     FILE *file = argc == 3 ? fopen(argv[2], "rb") : NULL;
@@ -76,7 +77,7 @@ int main(int argc, char **argv)
         size_t used = used_by(&calls[i]);
         used -= used < without ? used : without;
         printf("%s %zu\n", calls[i].name, used);
-        if (calls[i].result <= 0)
+        if (calls[i].result < 0)
             status = 2;
         else if (used > most && status == 0)
             status = 1;

@@ -17,7 +17,8 @@ ghost use Prim.Native.Nat.{_+_, _*_, _≤_};
 ghost use lib.ListN.{length};
 ghost use Rattle.replay.specs.Text.{Inside};
 
-// Begins a line with the name of a call, the word at its number, and its answer.
+// Begins a line with the name of a call, the word at its number, and its answer, with the word of a damaged record's
+// test.
 pub fn put_answer(out: &mut [u8; TEXT_SIZE], number: u64, said: Said) -> usize
     ensures { λ r. ⌜ Inside r ⌝ }
 {
@@ -28,7 +29,13 @@ pub fn put_answer(out: &mut [u8; TEXT_SIZE], number: u64, said: Said) -> usize
     let named = put_word(out, 0, names, number);
     let blank = put_byte(out, named, b' ');
     let answered = put_word(out, blank, answers, said.word);
-    put_numbers(out, answered, &numbers, said.count)
+    let end = put_numbers(out, answered, &numbers, said.count);
+    if said.damage == 0 {
+        return end;
+    }
+    let tests = b"- mark kind length fit LSN check";
+    let space = put_byte(out, end, b' ');
+    put_word(out, space, tests, said.damage)
 }
 
 // Puts the count of ops, and each op as it stands in the op buffer.

@@ -19,11 +19,13 @@ const END: u64 = 4;
 
 pub const REFUSED: u64 = 5;
 
-// An answer's word, and how many of the numbers stand behind it.
+// An answer's word, how many of the numbers stand behind it, and behind them the test that a damaged record fails, 0 if
+// there is none.
 pub struct Said {
     pub word: u64,
     pub count: u64,
     pub numbers: [u64; 5],
+    pub damage: u64,
 }
 
 // An answer with up to two numbers.
@@ -32,17 +34,20 @@ fn short(word: u64, count: u64, first: u64, second: u64) -> Said {
         word,
         count,
         numbers: [first, second, 0, 0, 0],
+        damage: 0,
     }
 }
 
-// A refusal: its number and its detail.
+// A refusal: its number, its detail, and the test of a damaged record.
 fn refused(why: Refusal) -> Said {
-    short(
-        REFUSED,
-        2,
-        drivelog::number_of(why),
-        drivelog::detail_of(why),
-    )
+    let number = drivelog::number_of(why);
+    let detail = drivelog::detail_of(why);
+    Said {
+        word: REFUSED,
+        count: 2,
+        numbers: [number, detail, 0, 0, 0],
+        damage: drivelog::damage_of(why),
+    }
 }
 
 // The answer of a writing call.
@@ -73,6 +78,7 @@ pub fn of_opened(opened: Opened, cursor: &mut [u64; 4]) -> Said {
                 word: OK,
                 count: 4,
                 numbers: [c.pos, c.lsn, c.used, c.count, 0],
+                damage: 0,
             }
         }
         Opened::Refused(why) => refused(why),
@@ -88,6 +94,7 @@ pub fn of_step(step: Step, cursor: &mut [u64; 4]) -> Said {
                 word: RECORD,
                 count: 5,
                 numbers: [f.pos, f.lsn, f.kind, f.length, f.mark],
+                damage: 0,
             }
         }
         Step::End(lsn) => short(END, 1, lsn, 0),

@@ -23,17 +23,25 @@ fn list_records(bytes: &[u8], text: &mut Vec<u8>) -> Result<(), Refusal> {
     let mut scan = Scan::new(image, &superline(image)?);
     text.extend_from_slice(HEADING.as_bytes());
     text.push(b'\n');
+    let mut test = "";
     let last_line: &[u8] = loop {
         match scan.next() {
             Ok(Some(record)) if record.mark == MARK_RELEASED => {}
             Ok(Some(record)) => push_record(text, &record),
             Ok(None) => break b"end ",
             Err(Refusal::TooMany { .. }) => break b"toomany ",
-            Err(_) => break b"damaged ",
+            Err(refusal) => {
+                test = refusal.record_test().map_or("", |test| test.word());
+                break b"damaged ";
+            }
         }
     };
     text.extend_from_slice(last_line);
     push_decimal(text, scan.lsn);
+    if !test.is_empty() {
+        text.push(b' ');
+        text.extend_from_slice(test.as_bytes());
+    }
     text.push(b'\n');
     Ok(())
 }
