@@ -1,10 +1,10 @@
 # demo: the log in a minute, with a power failure. test: the gate. prove: every function and theorem, with no program run.
 # list: the records of a sample module. lib: the reading calls for C, proved, as target/lib/libdrivelog.a (include/drivelog.h).
 # compare, calls, crash: the built programs and the calls for C against the reference for longer, as `make compare SCRIPTS=1000`,
-# `make calls SCRIPTS=1000`, `make crash SECONDS=600`. bench: how long the calls take beside plain Rust, zlib and libpmemlog. speed: how
+# `make calls SCRIPTS=1000`, `make why SCRIPTS=1000`, `make crash SECONDS=600`. bench: how long the calls take beside plain Rust, zlib and libpmemlog. speed: how
 # long loglist takes for a full image, beside one in plain Rust. docs/TESTING.md says what the tests show, docs/SPEED.md what the times
 # say.
-.PHONY: demo list lib prove test compare calls crash speed bench bench-c programs
+.PHONY: demo list lib prove test compare calls why crash speed bench bench-c programs
 
 SCRIPTS ?= 1000
 SECONDS ?= 60
@@ -43,6 +43,11 @@ compare: programs
 calls: lib
 	cd reference && cargo build --release --offline --quiet
 	tests/c/run $(SEED) $(SCRIPTS)
+
+why:
+	rt check logwhy
+	cd reference && cargo build --release --offline --quiet
+	$(reference) why target/bin/logwhy $(SEED) $(SCRIPTS)
 
 crash: programs
 	$(reference) crash $(SECONDS) --program target/bin/replay --seed $(SEED)

@@ -38,6 +38,7 @@ pub mod demo;
 pub mod gen;
 pub mod images;
 pub mod loglist;
+pub mod logwhy;
 pub mod replay;
 pub mod rng;
 pub mod samples;

@@ -8,6 +8,7 @@ use reference::crash::{crash_bench, Program};
 use reference::demo::demo;
 use reference::gen;
 use reference::loglist::{loglist, read_image_bytes};
+use reference::logwhy::{compare_logwhy, logwhy, read_input};
 use reference::replay::replay;
 use reference::samples::full_image;
 use reference::shortcut::Shortcut;
@@ -31,6 +32,8 @@ usage: reference demo                    tell the story that the program demo te
        reference compare REPLAY LOGLIST SEED N
                                          compare two other programs with ours on N seeds
        reference c-calls DRIVER SEED N   compare the calls that a C program makes with ours, on N images
+       reference logwhy                  say why the LSN behind the image on standard input is listed or not
+       reference why LOGWHY SEED N       run another logwhy on images of N seeds, each with many LSNs
        reference samples LOGLIST         run another loglist on images written word by word
        reference time PROGRAM...         how long each takes to list a full image
        reference same-work PROVED PLAIN  whether two bench programs leave the same
@@ -122,6 +125,27 @@ fn run(args: &[&str]) -> io::Result<ExitCode> {
                 "c-calls: {} images, {} calls, {} differences",
                 report.images,
                 report.calls,
+                report.difference.iter().count()
+            )?;
+            stdout.flush()?;
+            return Ok(if report.difference.is_none() {
+                ExitCode::SUCCESS
+            } else {
+                ExitCode::FAILURE
+            });
+        }
+        ["logwhy"] => stdout.write_all(logwhy(&read_input(io::stdin().lock())?).as_bytes())?,
+        ["why", program, seed, count] => {
+            let report = compare_logwhy(Path::new(program), parse(seed)?, parse(count)?)?;
+            if let Some((image, found)) = &report.difference {
+                writeln!(stdout, "seed {}, image '{image}': the lines differ", found.seed)?;
+                writeln!(stdout, "reference: {}\nprogram:   {}", found.ours, found.theirs)?;
+            }
+            writeln!(
+                stdout,
+                "why: {} images, {} inputs, {} differences",
+                report.images,
+                report.inputs,
                 report.difference.iter().count()
             )?;
             stdout.flush()?;
