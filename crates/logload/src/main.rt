@@ -26,9 +26,16 @@ fn image_room() -> [u64; 8192]
     [0; 8192]
 }
 
+// Room for an image's bytes.
+fn byte_room() -> [u8; 65536]
+    ensures { λ r. ⌜ 65536 ≡ length r ⌝ }
+{
+    [0; 65536]
+}
+
 // Puts the bytes of a word, least significant first.
-fn put_word(out: &mut [u8; 65536], at: usize, w: u64)
-    requires { ⌜ at + 8 ≤ 65536 ⌝ }
+fn put_word(out: &mut [u8], at: usize, w: u64)
+    requires { ⌜ at + 8 ≤ length (now out) ⌝ }
 {
     let mut rest = w;
     let mut i: usize = 0;
@@ -39,14 +46,21 @@ fn put_word(out: &mut [u8; 65536], at: usize, w: u64)
     }
 }
 
-// Writes an image's bytes.
-fn write_image(image: &[u64; 8192]) {
-    let mut bytes = [0u8; 65536];
+// Puts an image's bytes.
+fn put_image(image: &[u64; 8192], out: &mut [u8])
+    requires { ⌜ 65536 ≤ length (now out) ⌝ }
+{
     let mut j: usize = 0;
     while j < 8192 {
-        put_word(&mut bytes, 8 * j, image[j]);
+        put_word(out, 8 * j, image[j]);
         j += 1;
     }
+}
+
+// Writes an image's bytes.
+fn write_image(image: &[u64; 8192]) {
+    let mut bytes = byte_room();
+    put_image(image, &mut bytes);
     io::write_all(STDOUT_FILENO, &bytes);
 }
 
