@@ -6,10 +6,10 @@ use Rattle.replay.proofs.numbers.save_state.Statement.{statement}
 use Rattle.replay.proofs.numbers.save_state.Tie as tie
 
 abbrev Inv-loop : tie.InvT-loop
-Inv-loop numbers₀ s i₀ numbers i = i ≤ 64
+Inv-loop numbers₀ s i₀ numbers i = i ≤ 256
 
 abbrev μ-loop : tie.MeasureT-loop
-μ-loop numbers₀ s i₀ numbers i = 64 - i
+μ-loop numbers₀ s i₀ numbers i = 256 - i
 
 pub save-state-spec : {M : Type 1} → statement M
 save-state-spec =

@@ -8,10 +8,10 @@ use Rattle.replay.proofs.numbers.state_of.Statement.{statement}
 use Rattle.replay.proofs.numbers.state_of.Tie as tie
 
 abbrev Inv-loop : tie.InvT-loop
-Inv-loop numbers table₀ i₀ table i = (i ≤ 64) × (length table ≡ 64)
+Inv-loop numbers table₀ i₀ table i = (i ≤ 256) × (length table ≡ 256)
 
 abbrev μ-loop : tie.MeasureT-loop
-μ-loop numbers table₀ i₀ table i = 64 - i
+μ-loop numbers table₀ i₀ table i = 256 - i
 
 pub state-of-spec : {M : Type 1} → statement M
 state-of-spec =
