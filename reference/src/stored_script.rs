@@ -187,7 +187,9 @@ impl Script {
         self.poke(MOST, 99);
         self.next();
         self.recover();
-        self.cursor(19, 4, 0, 64);
+        self.cursor(19, 4, 0, 256);
+        self.next();
+        self.cursor(19, 4, 0, 257);
         self.next();
         self.cursor(40, 4, 0, 0);
         self.next();
@@ -196,25 +198,36 @@ impl Script {
         self.recover();
     }
 
-    /// Lines that are long: 300 words, and a force of 64 records.
+    /// Lines that are long: 300 words, a full table, and a force of 256 records. Then the records with LSN 257 and 258 at the
+    /// table's entries 1 and 2.
     fn a_full_table(&mut self) {
         self.image(300, MOST);
         self.print_words(0, 300);
-        self.op_buffer(2_000, 0);
-        self.format();
-        for _ in 0..65 {
-            self.reserve(1, 0);
-        }
-        for lsn in 1..=64 {
-            self.complete(lsn);
-        }
-        self.op_buffer(100, 0);
-        self.force(64, 64);
-        self.op_buffer(2_000, 0);
-        self.force(64, 64);
         self.print_words(290, 5);
         self.print_words(300, 1);
         self.print_words(298, MOST);
+        self.image(800, MOST);
+        self.op_buffer(33, 0);
+        self.format();
+        for _ in 0..257 {
+            self.reserve(1, 0);
+        }
+        for lsn in 1..=256 {
+            self.complete(lsn);
+        }
+        self.op_buffer(100, 0);
+        self.force(256, 256);
+        self.op_buffer(1_539, 0);
+        self.force(256, 256);
+        self.release(3);
+        self.release(1);
+        self.reserve(2, 0);
+        self.release(2);
+        self.reserve(3, 0);
+        self.complete(257);
+        self.force(257, 1);
+        self.recover();
+        self.print_state();
         self.release_all();
     }
 
@@ -235,7 +248,9 @@ impl Script {
         self.field(6, 1);
         self.field(7, 4_294_967_295);
         self.field(8, 1);
-        self.entry(64 + 3, 65_536 + 1, 65_536 + 2, 65_536 + 3, 4);
+        self.entry(256 + 3, 65_536 + 1, 65_536 + 2, 65_536 + 3, 4);
+        self.entry(64 + 3, 1, 2, 3, 1);
+        self.entry(255, 1, 2, 3, 1);
         self.entry(4, 1, 2, 3, 1);
         self.entry(5, 1, 2, 3, 2);
         self.entry(6, 1, 2, 3, 3);

@@ -26,17 +26,21 @@ fn plain_state(state: &State) -> plain::State {
         committed_lsn: state.committed_lsn,
         copy_in_use: state.copy_in_use,
         epoch: state.epoch,
-        table: state.table.map(|entry| plain::Entry {
-            position: entry.position.try_into().unwrap(),
-            length: entry.length.try_into().unwrap(),
-            kind: entry.kind.try_into().unwrap(),
-            stage: match entry.stage {
+        table: state.table.map(|entry| {
+            let stage = match entry.stage {
                 Stage::Free => plain::Stage::Free,
                 Stage::Open => plain::Stage::Open,
                 Stage::Complete => plain::Stage::Complete,
                 Stage::Committed => plain::Stage::Committed,
                 Stage::Released => plain::Stage::Released,
-            },
+            };
+            let number = |number: u64| u16::try_from(number).unwrap();
+            plain::Entry::new(
+                number(entry.position),
+                number(entry.length),
+                number(entry.kind),
+                stage,
+            )
         }),
     }
 }
@@ -163,7 +167,8 @@ fn images_of_every_sort() {
     for seed in 0..4 * SORTS.len() as u64 {
         same_records(&image(seed).1);
     }
-    same_records(&full_image());
+    same_records(&full_image(64));
+    same_records(&full_image(256));
 }
 
 /// Histories that wrap around, full tables, unsound and forged states, all image sizes, damaged superlines and records, last
@@ -230,11 +235,21 @@ fn full_tables() {
     let mut met = Met::default();
     let mut rng = Rng::new(1);
     let mut machine = Machine::default();
-    machine.run(&Command::Image { words: 700, value: 0 });
+    machine.run(&Command::Image { words: 1_900, value: 0 });
     machine.run(&Command::OpBuffer { words: 8_192, value: 7 });
     run_both(&mut machine, &Command::Format, &mut met);
-    for round in 0..20 {
-        let mut lsns: Vec<u64> = (64 * round + 1..=64 * round + 64).collect();
+    // A record more than fits goes before the first round, so that no round begins at the table's entry 0 or 1.
+    for (lsn, call) in [(1, 3), (1, 1), (1, 0)] {
+        let call = match call {
+            3 => Command::Reserve { kind: 1, length: 9 },
+            1 => Command::Complete { lsn },
+            _ => Command::Force { lsn, frequency: 1 },
+        };
+        run_both(&mut machine, &call, &mut met);
+    }
+    run_both(&mut machine, &Command::Release { lsn: 1 }, &mut met);
+    for round in 0..6 {
+        let mut lsns: Vec<u64> = (256 * round + 2..=256 * round + 257).collect();
         for &lsn in &lsns {
             let bytes = rng.bytes(lsn % 50);
             let length = bytes.len() as u64;
@@ -243,16 +258,18 @@ fn full_tables() {
             run_both(&mut machine, &Command::Complete { lsn }, &mut met);
         }
         run_both(&mut machine, &Command::Reserve { kind: 1, length: 1 }, &mut met);
-        run_both(&mut machine, &Command::Force { lsn: lsns[63], frequency: 1 }, &mut met);
+        run_both(&mut machine, &Command::Force { lsn: lsns[255], frequency: 1 }, &mut met);
         rng.shuffle(&mut lsns);
-        for lsn in lsns {
+        for (i, &lsn) in lsns.iter().enumerate() {
             run_both(&mut machine, &Command::Release { lsn }, &mut met);
-            run_both(&mut machine.clone(), &Command::Recover, &mut met);
+            if i % 8 == 0 {
+                run_both(&mut machine.clone(), &Command::Recover, &mut met);
+            }
         }
     }
-    assert_eq!(machine.state.head_lsn, 1_281);
+    assert_eq!(machine.state.head_lsn, 6 * 256 + 2);
     assert!(met.kinds.contains(&("reserve", Err(9))));
-    assert!(met.kinds.contains(&("force", Ok(129 / 8))));
+    assert!(met.kinds.contains(&("force", Ok(513 / 8))));
 }
 
 /// A state that is sound but for one length, kind or count of records.
@@ -263,7 +280,7 @@ fn barely_unsound_states() {
         (1_024, 1, 0, None),
         (1_025, 1, 0, Some(2)),
         (1_024, 0, 0, Some(2)),
-        (1_024, 1, 64, Some(2)),
+        (1_024, 1, 256, Some(2)),
     ] {
         let mut machine = Machine::default();
         machine.run(&Command::Image { words: 400, value: 0 });
@@ -336,7 +353,8 @@ fn listings() {
     for sample in samples() {
         same_list(&sample.bytes);
     }
-    same_list(&full_image());
+    same_list(&full_image(64));
+    same_list(&full_image(256));
 }
 
 #[test]
@@ -355,5 +373,5 @@ fn checks() {
 #[test]
 fn sizes() {
     assert_eq!(size_of::<plain::Entry>(), 8);
-    assert_eq!(size_of::<plain::State>(), 8 * 8 + 64 * 8);
+    assert_eq!(size_of::<plain::State>(), 8 * 8 + 256 * 8);
 }

@@ -43,8 +43,11 @@ fn digests() {
 #[test]
 fn states_by_field_and_entry() {
     let output =
-        run_words(&[4, 0, 5, 4, 7, 6, 4, 8, 9, 5, 66, 65_537, 2, 3, 4, 5, 3, 1, 1, 1, 5, 31]);
+        run_words(&[4, 0, 5, 4, 7, 6, 4, 8, 9, 5, 258, 65_537, 2, 3, 4, 5, 3, 1, 1, 1, 5, 31]);
     assert_eq!(output, "state 5 0 0 0 0 0 0 6 [2 1 2 3 4]\n");
+    // 66 and 255 are entries of their own.
+    let output = run_words(&[5, 66, 1, 2, 3, 4, 5, 255, 1, 1, 1, 1, 31]);
+    assert_eq!(output, "state 0 0 0 0 0 0 0 0 [66 1 2 3 4] [255 1 1 1 1]\n");
 }
 
 #[test]
