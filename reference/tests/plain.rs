@@ -26,21 +26,17 @@ fn plain_state(state: &State) -> plain::State {
         committed_lsn: state.committed_lsn,
         copy_in_use: state.copy_in_use,
         epoch: state.epoch,
-        table: state.table.map(|entry| {
-            let stage = match entry.stage {
+        table: state.table.map(|entry| plain::Entry {
+            position: entry.position.try_into().unwrap(),
+            length: entry.length.try_into().unwrap(),
+            kind: entry.kind.try_into().unwrap(),
+            stage: match entry.stage {
                 Stage::Free => plain::Stage::Free,
                 Stage::Open => plain::Stage::Open,
                 Stage::Complete => plain::Stage::Complete,
                 Stage::Committed => plain::Stage::Committed,
                 Stage::Released => plain::Stage::Released,
-            };
-            let number = |number: u64| u16::try_from(number).unwrap();
-            plain::Entry::new(
-                number(entry.position),
-                number(entry.length),
-                number(entry.kind),
-                stage,
-            )
+            },
         }),
     }
 }
@@ -148,7 +144,9 @@ fn same_records(bytes: &[u8]) {
         Ok(count) => {
             assert_eq!(query::count(bytes), count as i64);
             assert_eq!(records.len() as u64, count);
-            for (index, (kind, lsn, payload)) in (0..).zip(records) {
+            // Each answer takes a walk of its own.
+            let step = 1 + records.len() / 40;
+            for (index, (kind, lsn, payload)) in (0..).zip(records).step_by(step) {
                 let mut output = vec![0; payload.len()];
                 assert_eq!(query::kind(bytes, index), kind);
                 assert_eq!(query::lsn(bytes, index), lsn);
@@ -238,16 +236,15 @@ fn full_tables() {
     machine.run(&Command::Image { words: 1_900, value: 0 });
     machine.run(&Command::OpBuffer { words: 8_192, value: 7 });
     run_both(&mut machine, &Command::Format, &mut met);
-    // A record more than fits goes before the first round, so that no round begins at the table's entry 0 or 1.
-    for (lsn, call) in [(1, 3), (1, 1), (1, 0)] {
-        let call = match call {
-            3 => Command::Reserve { kind: 1, length: 9 },
-            1 => Command::Complete { lsn },
-            _ => Command::Force { lsn, frequency: 1 },
-        };
+    // One record before the first round, so that no round ends where the table does.
+    for call in [
+        Command::Reserve { kind: 1, length: 9 },
+        Command::Complete { lsn: 1 },
+        Command::Force { lsn: 1, frequency: 1 },
+        Command::Release { lsn: 1 },
+    ] {
         run_both(&mut machine, &call, &mut met);
     }
-    run_both(&mut machine, &Command::Release { lsn: 1 }, &mut met);
     for round in 0..6 {
         let mut lsns: Vec<u64> = (256 * round + 2..=256 * round + 257).collect();
         for &lsn in &lsns {

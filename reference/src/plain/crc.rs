@@ -36,9 +36,12 @@ impl Crc {
 
     #[inline]
     pub fn word(self, word: u64) -> Crc {
-        let bytes = (u64::from(self.0) ^ word).to_le_bytes();
-        let at = |i: usize| TABLES[7 - i][usize::from(bytes[i])];
-        Crc(at(0) ^ at(1) ^ at(2) ^ at(3) ^ at(4) ^ at(5) ^ at(6) ^ at(7))
+        let at = |table: usize, byte: u8| TABLES[table][usize::from(byte)];
+        let [a, b, c, d] = (self.0 ^ word as u32).to_le_bytes();
+        let [e, f, g, h] = ((word >> 32) as u32).to_le_bytes();
+        // The upper half does not wait for the register.
+        let upper = at(3, e) ^ at(2, f) ^ at(1, g) ^ at(0, h);
+        Crc(upper ^ (at(7, a) ^ at(6, b)) ^ (at(5, c) ^ at(4, d)))
     }
 
     /// Takes in the low `count` bytes of a word, fewer than eight; its other bytes are zero.
