@@ -107,7 +107,7 @@ pub fn image(seed: u64) -> (&'static str, Vec<u8>) {
 
 // ---------------------------------------------------------------- logs
 
-/// So many records; one in `released` is released, none if that is 0.
+/// So many records, all of them small if they are many; one in `released` is released, none if that is 0.
 fn records(rng: &mut Rng, count: usize, released: u64) -> Vec<Record> {
     let one = |_| {
         let mark = match released {
@@ -117,7 +117,7 @@ fn records(rng: &mut Rng, count: usize, released: u64) -> Vec<Record> {
         };
         let length = match rng.below(10) {
             0 => 0,
-            1 => rng.below(800),
+            1 if count <= OLD_TABLE_SIZE => rng.below(800),
             2 => rng.below(100),
             _ => rng.below(20),
         };
