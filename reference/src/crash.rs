@@ -291,8 +291,8 @@ impl<'a> History<'a> {
         Ok(())
     }
 
-    /// Gives up what there is, now and then, and reserves and completes until so many records are live, in calls that power does
-    /// not fail in. All but the last few are forced.
+    /// Reserves and completes until so many records are live, in calls that power does not fail in; mostly all others are given up
+    /// before, if they can be, and now and then what there is is forced.
     fn fill(&mut self, wanted: u64) -> Result<(), String> {
         if self.rng.chance(2, 3) {
             self.undisturbed(&Command::ReleaseAll)?; // refused if some are not durable

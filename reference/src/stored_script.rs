@@ -198,8 +198,8 @@ impl Script {
         self.recover();
     }
 
-    /// Lines that are long: 300 words, a full table, and a force of 256 records. Then the records with LSN 257 and 258 at the
-    /// table's entries 1 and 2.
+    /// Lines that are long: 300 words, a force of 256 records, a full table. All but the last records are put into the table by hand,
+    /// which prints nothing. Then the records with LSN 257 and 258 come to the table's entries 1 and 2.
     fn a_full_table(&mut self) {
         self.image(300, MOST);
         self.print_words(0, 300);
@@ -209,26 +209,34 @@ impl Script {
         self.image(800, MOST);
         self.op_buffer(33, 0);
         self.format();
-        for _ in 0..257 {
+        for lsn in 1..=253 {
+            self.entry(lsn, 3 * (lsn - 1), 0, 1, 2);
+        }
+        self.field(3, 3 * 253);
+        self.field(4, 254);
+        for _ in 254..=257 {
             self.reserve(1, 0);
         }
-        for lsn in 1..=256 {
+        for lsn in 254..=256 {
             self.complete(lsn);
         }
-        self.op_buffer(100, 0);
+        self.op_buffer(1_538, 0);
         self.force(256, 256);
         self.op_buffer(1_539, 0);
         self.force(256, 256);
         self.release(3);
+        self.reserve(1, 0);
         self.release(1);
         self.reserve(2, 0);
         self.release(2);
         self.reserve(3, 0);
         self.complete(257);
         self.force(257, 1);
-        self.recover();
         self.print_state();
+        self.complete(258);
+        self.force(258, 1);
         self.release_all();
+        self.print_state();
     }
 
     /// No LSN left, an area that is not the image's, fields and entries out of range.

@@ -10,7 +10,7 @@ use reference::refusal::{RecordTest, Refusal};
 use reference::samples::samples;
 use reference::{gen, rng::Rng};
 
-/// An image of so many words with these records behind one another, by the calls.
+/// An image with so many marked records, some of them released, made by the calls.
 fn log(rng: &mut Rng, count: u64) -> Vec<u64> {
     use reference::calls;
     let mut image = vec![rng.next_u64(); 1_200];
