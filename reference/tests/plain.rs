@@ -227,7 +227,7 @@ fn long_histories() {
     assert!(met.kinds.contains(&("reserve", Ok(132 / 8))));
 }
 
-/// Tables filled, forced in one stretch, and given back in any order.
+/// Tables filled, forced in one stretch, and given back in any order; in between, states in which one number is another.
 #[test]
 fn full_tables() {
     let mut met = Met::default();
@@ -253,6 +253,11 @@ fn full_tables() {
             run_both(&mut machine, &Command::Reserve { kind: lsn, length }, &mut met);
             run_both(&mut machine, &Command::Copy { lsn, offset: 0, bytes }, &mut met);
             run_both(&mut machine, &Command::Complete { lsn }, &mut met);
+            if rng.chance(1, 2) {
+                let mut other = machine.clone();
+                change_a_number(&mut rng, &mut other);
+                run_both(&mut other, &Command::Force { lsn, frequency: 1 }, &mut met);
+            }
         }
         run_both(&mut machine, &Command::Reserve { kind: 1, length: 1 }, &mut met);
         run_both(&mut machine, &Command::Force { lsn: lsns[255], frequency: 1 }, &mut met);
@@ -266,6 +271,7 @@ fn full_tables() {
     }
     assert_eq!(machine.state.head_lsn, 6 * 256 + 2);
     assert!(met.kinds.contains(&("reserve", Err(9))));
+    assert!(met.kinds.contains(&("force", Err(2))));
     assert!(met.kinds.contains(&("force", Ok(513 / 8))));
 }
 
