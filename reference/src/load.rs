@@ -81,21 +81,19 @@ fn instead_of(number: &[u8]) -> Vec<Vec<u8>> {
     let text = String::from_utf8_lossy(number).into_owned();
     let value: u64 = text.parse().unwrap_or(7);
     let wide = u128::from(value);
-    let mut numbers: Vec<u128> = [0, 1, 2, 255, 256, 65_535, 65_536, 65_537, 1_024, 1_025].into();
-    numbers.extend([wide + 1, wide.saturating_sub(1), wide + 2, 10 * wide]);
-    numbers.extend([16, 32, 62, 63, 64, 96].map(|bits| wide + (1 << bits)));
-    for power in [1u128 << 32, 1 << 62, 1 << 63, 1 << 64] {
+    let mut numbers: Vec<u128> = [0, 1, 65_535, 65_536, 1_024, 1_025].into();
+    numbers.extend([wide + 1, wide.saturating_sub(1), 10 * wide]);
+    numbers.extend([16, 32, 62, 64, 96].map(|bits| wide + (1 << bits)));
+    for power in [1u128 << 62, 1 << 64] {
         numbers.extend([power - 1, power, power + 1]);
     }
     let mut all: Vec<String> = numbers.iter().map(u128::to_string).collect();
-    all.extend([beyond_128_bits(value), "9".repeat(19), "9".repeat(20), "1".repeat(30)]);
-    all.extend([format!("1{}", "0".repeat(19)), format!("1{}", "0".repeat(40)), "8".repeat(300)]);
-    all.extend(["00".into(), "01".into(), format!("0{text}"), format!("000{text}")]);
-    all.extend([format!("{}{text}", "0".repeat(20)), format!("+{text}"), format!("-{text}")]);
-    all.extend(["".into(), "-".into(), "+".into(), "-0".into(), "+0".into(), "0x1".into()]);
-    all.extend([format!("{text}."), format!("{text}.0"), format!("{text}e0"), format!("1_{text}")]);
-    all.extend([format!("{text}\t"), format!("\t{text}"), format!(" {text}"), format!("{text} ")]);
-    all.extend([format!("{text}a"), "a".into(), "/".into(), ":".into(), format!("{text}:")]);
+    all.extend([beyond_128_bits(value), "9".repeat(20), "1".repeat(30), "8".repeat(300)]);
+    all.extend(["00".into(), "01".into(), format!("0{text}"), format!("{}{text}", "0".repeat(20))]);
+    all.extend([format!("+{text}"), format!("-{text}"), "".into(), "-".into(), "-0".into()]);
+    all.extend([format!("{text}.0"), format!("{text}e0"), format!("1_{text}"), "0x1".into()]);
+    all.extend([format!("{text}\t"), format!(" {text}"), format!("{text} ")]);
+    all.extend([format!("{text}a"), "/".into(), format!("{text}:")]);
     let mut all: Vec<Vec<u8>> = all.into_iter().map(String::into_bytes).collect();
     // Arabic digits, a NUL byte, a digit with its top bit set.
     all.extend(["\u{661}".into(), [number, b"\0"].concat(), vec![b'1' | 0x80]]);
@@ -148,7 +146,7 @@ fn wrong_fields() -> Vec<(String, Vec<u8>)> {
 /// L and the pairs of the data, alike and not.
 fn lengths() -> Vec<(String, Vec<u8>)> {
     let mut texts = Vec::new();
-    for length in [0, 1, 2, 7, 8, 9, 1_023, 1_024, 1_025, 1_026, 2_000, 65_536, 65_539, 130_000] {
+    for length in [0, 1, 2, 8, 9, 1_024, 1_025, 65_539, 130_000] {
         for pairs in [length, length + 1, length - length.min(1), 0, 3] {
             let mut lines = listing(1, &records(&[3, pairs, 1]));
             set_field(&mut lines[2], 2, length.to_string().as_bytes());
@@ -211,7 +209,7 @@ fn limits() -> Vec<(String, Vec<u8>)> {
         // A byte less takes no word less, a byte more takes one more.
         let mut lengths = lengths;
         let last = lengths.len() - 1;
-        for change in [1, 7, 8, 9] {
+        for change in [1, 8] {
             let length = lengths[last];
             lengths[last] = length + change;
             texts.push(named(
@@ -237,7 +235,7 @@ fn limits() -> Vec<(String, Vec<u8>)> {
 
 fn lsns() -> Vec<(String, Vec<u8>)> {
     let mut texts = Vec::new();
-    for lsn in [0, 1, 2, 1 << 32, LSN_LIMIT - 2, LSN_LIMIT - 1, LSN_LIMIT, LSN_LIMIT + 1, 1 << 63] {
+    for lsn in [0, 1, 1 << 32, LSN_LIMIT - 2, LSN_LIMIT - 1, LSN_LIMIT, LSN_LIMIT + 1] {
         for count in 0..3 {
             let lines = listing(lsn, &records(&vec![1; count]));
             texts.push(named(format!("{count} records from {lsn}"), &lines));
@@ -254,28 +252,39 @@ fn lsns() -> Vec<(String, Vec<u8>)> {
 /// Lines that meet several refusals at once, a different set each: the first in the order 17, 18, 3, 9, 10 is due.
 fn orders() -> Vec<(String, Vec<u8>)> {
     let mut texts = Vec::new();
-    let full_table = listing(5, &records(&[0; TABLE_SIZE]));
-    let full_ring = listing(5, &records(&lengths_for(MAX_CAPACITY - 1)));
-    let full_both = listing(5, &records(&[&[1_024; 54][..], &[16; 201], &[680]].concat()));
-    for (before, base) in [("table", full_table), ("ring", full_ring), ("both", full_both)] {
+    let bases = [
+        ("one record", listing(5, &records(&[3]))),
+        ("full table", listing(5, &records(&[0; TABLE_SIZE]))),
+        ("full ring", listing(5, &records(&lengths_for(MAX_CAPACITY - 1)))),
+        ("both full", listing(5, &records(&[&[1_024; 54][..], &[16; 201], &[680]].concat()))),
+    ];
+    // What is wrong with the form of a line.
+    let forms: [(&str, fn(&mut Vec<u8>)); 7] = [
+        ("nothing", |_| {}),
+        ("leading zero", |line| line.insert(0, b'0')),
+        ("last digit", |line| *line.iter_mut().nth_back(1).expect("a digit") = b'A'),
+        ("a digit", |line| *line.iter_mut().nth_back(300).expect("a digit") = b'g'),
+        ("pair more", |line| drop(line.splice(line.len() - 1.., *b"07\n"))),
+        ("pair less", |line| drop(line.drain(line.len() - 3..line.len() - 1))),
+        ("line feed", |line| line.truncate(line.len() - 1)),
+    ];
+    for (before, base) in bases {
         let next = 5 + base.len() as u64 - 2;
-        for set in 0..16 {
-            let (form, gap, kind, feed) = (set & 1, set >> 1 & 1, set >> 2 & 1, set >> 3 & 1);
-            let mut line = record_line(next + gap, 1 - kind, &[7; 900]);
-            if form == 1 {
-                line.insert(0, b'0');
+        for (gap, kind, length) in
+            [(0, 1, 900), (1, 1, 900), (0, 0, 900), (0, 1, 1_025), (1, 0, 1_025)]
+        {
+            for (form, spoil) in forms {
+                let mut line = record_line(next + gap, kind, &vec![7; length]);
+                spoil(&mut line);
+                let mut lines = base.clone();
+                let end = lines.len() - 1;
+                if form == "line feed" {
+                    lines.pop();
+                }
+                lines.insert(end, line);
+                let numbers = format!("{gap} further, kind {kind}, L {length}");
+                texts.push(named(format!("{before}, then {numbers}, wrong: {form}"), &lines));
             }
-            if feed == 1 {
-                line.pop();
-            }
-            let mut lines = base.clone();
-            let end = lines.len() - 1;
-            lines.insert(end, line);
-            if feed == 1 {
-                lines.truncate(end + 1);
-            }
-            let name = format!("full {before}, form {form} gap {gap} kind {kind} no feed {feed}");
-            texts.push(named(name, &lines));
         }
     }
     // A refusal, and a worse line behind it.
@@ -365,7 +374,6 @@ fn last_lines() -> Vec<(String, Vec<u8>)> {
     let good = listing(41, &records(&[0, 3])).concat();
     for size in 0..good.len() {
         texts.push((format!("the first {size} bytes"), good[..size].to_vec()));
-        texts.push((format!("all but the first {size} bytes"), good[size..].to_vec()));
     }
     for place in 0..=HEADING.len() {
         for byte in [b'\n', good[place] ^ 0x20, good[place] ^ 0x80] {
@@ -639,7 +647,7 @@ fn insert_byte(rng: &mut Rng, lines: &mut Lines, byte: fn(&mut Rng) -> u8) {
 // ---------------------------------------------------------------- texts of a seed
 
 /// Changes of one seed's listing; the next seed goes on with the next ones.
-const CHANGES_OF_SEED: u64 = 10;
+const CHANGES_OF_SEED: u64 = 8;
 
 fn texts_of_seed(seed: u64) -> Vec<Text> {
     let mut rng = Rng::new(seed ^ 0x10AD);

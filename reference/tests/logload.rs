@@ -221,6 +221,14 @@ fn order_of_the_refusals() {
         // Without its line feed it is not in the form.
         assert_eq!(lines(&format!("{full}{line}")), 17, "{line}");
     }
+    // A wrong digit is 17 in a line that is refused anyway, too.
+    for (line, due) in [("262 1 2 0a0", 18), ("261 0 2 0a0", 3), ("261 1 2 0a0", 9)] {
+        assert_eq!(lines(&format!("{full}{line}a\n")), due, "{line}");
+        assert_eq!(lines(&format!("{full}{line}A\n")), 17, "{line}");
+    }
+    let room = records(5, &[&[1_024; 62][..], &[336]].concat());
+    assert_eq!(lines(&format!("{room}68 1 2 0a0a\n")), 10);
+    assert_eq!(lines(&format!("{room}68 1 2 0a0A\n")), 17);
     let table = records(5, &[0; 256]);
     assert_eq!(lines(&format!("{table}end 261\n")), 0);
     assert_eq!(lines(&format!("{table}261 1 0 -\nend 262\n")), 9);
