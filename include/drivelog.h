@@ -13,13 +13,13 @@
  * can be written. Image and output need no alignment, rows that of uint64_t. Where the length is 0 the pointer is not followed and may
  * be null. What is written may not overlap the image.
  *
- * Stack: a call takes at most 69,632 bytes (68 KB): the words of the largest image, 64 KB, whatever the size of this one, and less
- * than 4 KB more.
+ * Stack: a call takes at most 77,824 bytes (76 KB): the words of the largest image, 64 KB, whatever the size of this one, for
+ * drivelog_list the rows of 257 records, 8 KB, and less than 4 KB more.
  *
  * Time: every call but drivelog_payload_at tests the superline, then reads the whole log and computes the check of every record,
  * whatever it is asked; a payload comes on top of that. On a full image of the largest size a call takes about 50 microseconds
- * (docs/SPEED.md), so that to ask one record at a time, count and then kind, LSN and payload of all 64, takes 193 calls and about 10
- * milliseconds. To go through all records, ask drivelog_list once, and drivelog_payload_at for the payloads that matter.
+ * (docs/SPEED.md), so that to ask one record at a time, count and then kind, LSN and payload of 64 records, takes 193 calls and about
+ * 10 milliseconds. To go through all records, ask drivelog_list once, and drivelog_payload_at for the payloads that matter.
  */
 
 #ifndef DRIVELOG_H
@@ -38,7 +38,7 @@ enum drivelog_refusal {
     DRIVELOG_IMAGE_SIZE = 1,      /* bytes is not a multiple of 8, or not 320 to 65,536 */
     DRIVELOG_ARGUMENT = 3,        /* drivelog_payload_at only: no such position, or a length above 1,024 */
     DRIVELOG_SUPERLINE = 4,       /* the words that say where the log begins are wrong: no log, or one of another size */
-    DRIVELOG_TOO_MANY = 13,       /* more than 64 records before the end */
+    DRIVELOG_TOO_MANY = 13,       /* more than 256 records before the end */
     DRIVELOG_DAMAGED = 12,        /* a record is damaged; the whole list is refused, also what stands before the damage */
     DRIVELOG_NO_SUCH_RECORD = 16, /* index is not below the number of listed records */
     DRIVELOG_OUTPUT_SHORT = 14    /* the payload or the rows are longer than room */
@@ -46,13 +46,13 @@ enum drivelog_refusal {
 
 enum drivelog_limit {
     DRIVELOG_MAX_IMAGE = 65536, /* bytes of the largest image */
-    DRIVELOG_MAX_RECORDS = 64,  /* records that a log holds at most */
+    DRIVELOG_MAX_RECORDS = 256, /* records that a log holds at most */
     DRIVELOG_MAX_PAYLOAD = 1024 /* bytes of the longest payload: an output of this size is always enough */
 };
 
 int64_t drivelog_count(const uint8_t *image, size_t bytes);
 /*
-     The number of listed records, 0 to 64.
+     The number of listed records, 0 to 256.
 
      Returns the number, or -DRIVELOG_IMAGE_SIZE, -DRIVELOG_SUPERLINE, -DRIVELOG_TOO_MANY or -DRIVELOG_DAMAGED. An image for which
    this call returns a number is whole: on the same bytes, the calls below decline only an index or a room.

@@ -4,7 +4,8 @@
 //! a digest of what it left. The programs of a case take turns, round by round, and have to leave the same; what counts is the median
 //! of each. Jobs of the calls for C have the bytes of a full image behind the five words.
 
-use crate::samples::full_image;
+use crate::layout::{OLD_TABLE_SIZE, TABLE_SIZE};
+use crate::samples::{full_image, full_image_length};
 use std::collections::BTreeMap;
 use std::fmt;
 use std::io::{self, Write};
@@ -27,8 +28,9 @@ const NOT_LIVE: u64 = 2000;
 
 /// Words of the largest image.
 const LARGEST: u64 = 8_192;
-/// Records of a full table.
-const FULL: u64 = 64;
+/// Records of the full images, and of the one that the calls for C are made on: 64, as many as there could be before slip 6.
+const FEW: u64 = OLD_TABLE_SIZE as u64;
+const MANY: u64 = TABLE_SIZE as u64;
 
 /// A run takes at least so many microseconds, and seldom twice as many.
 const RUN_TIME: u64 = 10_000;
@@ -75,7 +77,7 @@ impl<'a> Program<'a> {
             [job, bytes, live, count, words].into_iter().flat_map(u64::to_le_bytes).collect();
         if job >= COUNT_RECORDS {
             static IMAGE: OnceLock<Vec<u8>> = OnceLock::new();
-            input.extend_from_slice(IMAGE.get_or_init(full_image));
+            input.extend_from_slice(IMAGE.get_or_init(|| full_image(FEW)));
         }
         let name = self.path.display();
         let mut child = Command::new(self.path)
@@ -163,17 +165,20 @@ fn medians(cases: &[(Case, &[Program])], rounds: usize) -> Result<Vec<Vec<f64>>,
 pub fn same_work(proved: &Path, plain: &Path) -> Result<usize, Failure> {
     let pair = [Program::new(proved), Program::new(plain)];
     let mut jobs = 0;
-    for job in [APPEND, CRC, RECOVER, LIST] {
-        for bytes in [8, 63, 64, 991] {
-            for live in [0, 8, 33, 60] {
-                one_round(Case { job, bytes, live, words: LARGEST }, &pair, 100)?;
-                jobs += 1;
-            }
+    // As long as so many fit.
+    let few =
+        [0, 8, 33, 60].into_iter().flat_map(|live| [8, 63, 64, 991].map(|bytes| (live, bytes)));
+    let many = [65, 200, 250].into_iter().flat_map(|live| [8, 63, 64].map(|bytes| (live, bytes)));
+    let full = [FEW, MANY].map(|live| (live, full_image_length(live)));
+    for (live, bytes) in few.chain(many).chain(full) {
+        for job in [APPEND, CRC, RECOVER, LIST] {
+            one_round(Case { job, bytes, live, words: LARGEST }, &pair, 100)?;
+            jobs += 1;
         }
     }
     for job in [RELEASE, NOT_LIVE] {
-        for released in [0, 1, 8, 60] {
-            for live in [released + 1, released + 2, 62] {
+        for released in [0, 1, 8, 60, 250] {
+            for live in [released + 1, released + 2, 252] {
                 let case = Case { job: job + released, bytes: 8, live, words: LARGEST };
                 one_round(case, &pair, 100)?;
                 jobs += 1;
@@ -210,30 +215,31 @@ pub fn bench(programs: &Programs, rounds: usize, out: &mut impl Write) -> Result
     out.flush()?;
 
     let append = |bytes, live, words| Case { job: APPEND, bytes, live, words };
-    let appends: Vec<Case> = [64, 1_024]
+    let appends: Vec<Case> = [0, 32, 60, 200, 250]
+        .map(|live| append(64, live, LARGEST))
         .into_iter()
-        .flat_map(|bytes| [0, 32, 60].map(|live| append(bytes, live, LARGEST)))
+        .chain([0, 32, 60].map(|live| append(1_024, live, LARGEST)))
         .collect();
     let crcs = [64, 1_024].map(|bytes| Case { job: CRC, bytes, live: 0, words: LARGEST });
-    let full_image =
-        [RECOVER, LIST].map(|job| Case { job, bytes: 991, live: FULL, words: LARGEST });
+    let full = |job, live| Case { job, bytes: full_image_length(live), live, words: LARGEST };
+    let full_images = [full(RECOVER, FEW), full(RECOVER, MANY), full(LIST, FEW), full(LIST, MANY)];
     let scan_growth: Vec<Case> = [RECOVER, LIST]
         .into_iter()
         .flat_map(|job| {
             [1_024, 2_048, 4_096, LARGEST].map(|words| {
                 // The most whole words for each record that leave one for the terminator.
-                let bytes = 8 * ((words - 24 - 1) / FULL - 3);
-                Case { job, bytes, live: FULL, words }
+                let bytes = 8 * ((words - 24 - 1) / FEW - 3);
+                Case { job, bytes, live: FEW, words }
             })
         })
         .collect();
     let append_growth: Vec<Case> = [1_024, 4_096]
         .map(|words| append(64, 0, words))
         .into_iter()
-        .chain([0, 16, 32, 48, 60].map(|live| append(64, live, LARGEST)))
+        .chain([0, 16, 32, 60, 100, 150, 200, 250].map(|live| append(64, live, LARGEST)))
         .collect();
     // The live records are as many whatever k is; then k is 0, with more and more live records behind the new head.
-    let release_cases: Vec<Case> = [(0, 62), (8, 62), (60, 62), (0, 2), (0, 30)]
+    let release_cases: Vec<Case> = [(0, 252), (60, 252), (250, 252), (0, 2), (0, 30), (0, 62)]
         .into_iter()
         .flat_map(|(released, live)| {
             [RELEASE, NOT_LIVE].map(|job| Case {
@@ -245,8 +251,8 @@ pub fn bench(programs: &Programs, rounds: usize, out: &mut impl Write) -> Result
         })
         .collect();
 
-    let c_calls = [COUNT_RECORDS, ONE_RECORD, ALL_RECORDS, ALL_BY_LIST]
-        .map(|job| Case { job, ..full_image[0] });
+    let c_calls =
+        [COUNT_RECORDS, ONE_RECORD, ALL_RECORDS, ALL_BY_LIST].map(|job| full(job, FEW));
 
     let proved = Program::new(programs.proved);
     let plain = Program::new(programs.plain);
@@ -254,7 +260,7 @@ pub fn bench(programs: &Programs, rounds: usize, out: &mut impl Write) -> Result
     let crc = Program::new(programs.crc);
     let checks = [proved, Program { args: &["zlib"], ..crc }, Program { args: &["table"], ..crc }];
     let mut cases: Vec<(Case, &[Program])> = Vec::new();
-    for case in [&appends[..], &crcs, &full_image, &scan_growth, &append_growth, &release_cases]
+    for case in [&appends[..], &crcs, &full_images, &scan_growth, &append_growth, &release_cases]
         .into_iter()
         .flatten()
     {
@@ -273,7 +279,7 @@ pub fn bench(programs: &Programs, rounds: usize, out: &mut impl Write) -> Result
 
     print_appends(&appends, &times, out)?;
     print_crcs(&crcs, &times, out)?;
-    print_full_image(&full_image, &times, out)?;
+    print_full_images(&full_images, &times, out)?;
     print_scan_growth(&scan_growth, &times, out)?;
     print_append_growth(&append_growth, &times, out)?;
     print_releases(&release_cases, &times, out)?;
@@ -303,7 +309,7 @@ fn print_appends(cases: &[Case], times: &Times, out: &mut impl Write) -> Result<
     for case in cases {
         let mut row = vec![grouped(case.bytes), grouped(case.live)];
         row.extend(pair_cells(case, times));
-        row.extend(bar(times[case][0] / times[case][1], 1.6));
+        row.extend(bar(times[case][0] / times[case][1], if case.bytes == 64 { 1.3 } else { 1.6 }));
         table.row(row);
     }
     table.print(out)
@@ -324,15 +330,15 @@ fn print_crcs(cases: &[Case], times: &Times, out: &mut impl Write) -> Result<(),
     table.print(out)
 }
 
-fn print_full_image(cases: &[Case], times: &Times, out: &mut impl Write) -> Result<(), Failure> {
+fn print_full_images(cases: &[Case], times: &Times, out: &mut impl Write) -> Result<(), Failure> {
     let mut table = Table::new(
-        "A full image of 8,192 words: 64 records of 991 bytes.",
-        &["call", "proved ns", "plain Rust ns", "ratio", "bar", ""],
+        "Full images of 8,192 words.",
+        &["call", "records", "bytes", "proved ns", "plain Rust ns", "ratio", "bar", ""],
     );
     for case in cases {
-        let mut row = vec![case.call().to_string()];
+        let mut row = vec![case.call().to_string(), grouped(case.live), grouped(case.bytes)];
         row.extend(pair_cells(case, times));
-        row.extend(bar(times[case][0] / times[case][1], 1.5));
+        row.extend(bar(times[case][0] / times[case][1], 1.1));
         table.row(row);
     }
     table.print(out)
@@ -400,8 +406,8 @@ fn print_c_calls(cases: &[Case], times: &Times, out: &mut impl Write) -> Result<
         let made = match case.job {
             COUNT_RECORDS => 1,
             ONE_RECORD => 3,
-            ALL_RECORDS => 1 + 3 * FULL,
-            _ => 1 + FULL,
+            ALL_RECORDS => 1 + 3 * FEW,
+            _ => 1 + FEW,
         };
         let mut row = vec![case.call().to_string(), grouped(made)];
         row.extend(pair_cells(case, times));

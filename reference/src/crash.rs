@@ -10,10 +10,10 @@
 
 use crate::abstract_log::{AbstractLog, WalkedRecord};
 use crate::device::Device;
-use crate::gen::ROOMY_OP_BUFFER;
+use crate::gen::roomy_op_buffer;
 use crate::layout::{
     record_check, record_size, Header, FIRST_RING_WORD, HEADER_WORDS, MARK_COMMITTED,
-    MARK_RELEASED, MAX_KIND, TABLE_SIZE,
+    MARK_RELEASED, MAX_KIND, OLD_TABLE_SIZE, TABLE_SIZE,
 };
 use crate::ops::{Op, OP_WORDS};
 use crate::rng::Rng;
@@ -43,6 +43,8 @@ pub struct Report {
     pub histories: u64,
     pub crashes: u64,
     pub images: u64,
+    /// The most records that a crash image held.
+    pub most_records: usize,
     pub failure: Option<Failure>,
 }
 
@@ -238,33 +240,91 @@ impl<'a> History<'a> {
     }
 
     fn run(&mut self) -> Result<(), String> {
-        let many_records = self.rng.chance(1, 16);
-        let words = if many_records {
-            FIRST_RING_WORD + 3 * TABLE_SIZE as u64 + self.rng.between(1, 20)
-        } else if self.rng.chance(1, 16) {
+        if self.rng.chance(1, 16) {
+            return self.run_with_many_records();
+        }
+        let words = if self.rng.chance(1, 16) {
             self.rng.between(100, 400)
         } else {
             self.rng.between(40, 72)
         };
         let lengths = [0, 0, 1, 3, 8, 9, 12, 16, 24, 30, 32, 40, 64, 96];
-        let kinds_of_length = if many_records { 0 } else { self.rng.between(1, 4) };
-        self.lengths = (0..kinds_of_length).map(|_| self.rng.pick(&lengths)).collect();
-        if many_records {
-            self.lengths.push(0);
-        } else if words >= 200 {
+        self.lengths = (0..self.rng.between(1, 4)).map(|_| self.rng.pick(&lengths)).collect();
+        if words >= 200 {
             self.lengths.push(self.rng.pick(&[200, 500, 1_023, 1_024]));
         }
-        let steps = if many_records { 5 * TABLE_SIZE as u64 } else { self.rng.between(8, 50) };
+        let steps = self.rng.between(8, 50);
 
         self.start_over(words)?;
         // Each formatting finds what the life before it left.
         for _ in 0..self.rng.between(1, 4) {
             self.format()?;
             for _ in 0..steps {
-                self.step(many_records)?;
+                self.step(false)?;
             }
         }
         Ok(())
+    }
+
+    /// Small records in a log of 300 to 1,100 words: more than the old table took, up to a full table, and again after all are
+    /// released, so that the live ones go round the end of the table.
+    fn run_with_many_records(&mut self) -> Result<(), String> {
+        let (old, most) = (OLD_TABLE_SIZE as u64, TABLE_SIZE as u64);
+        let wanted = match self.rng.below(4) {
+            0 => most,
+            1 => self.rng.between(old + 41, most - 1),
+            _ => self.rng.between(old + 1, old + 40),
+        };
+        let longest = self.rng.pick(&[0, 8]);
+        self.lengths = vec![0, longest];
+        let room = record_size(longest) * wanted + 1;
+        let words = (FIRST_RING_WORD + room + self.rng.below(20)).max(300);
+
+        self.start_over(words)?;
+        self.format()?;
+        for _ in 0..self.rng.between(2, 3) {
+            self.fill(wanted)?;
+            for _ in 0..30 {
+                self.step(true)?;
+            }
+        }
+        Ok(())
+    }
+
+    /// Reserves and completes until so many records are live, in calls that power does not fail in; mostly all others are given up
+    /// before, if they can be, and now and then what there is is forced.
+    fn fill(&mut self, wanted: u64) -> Result<(), String> {
+        if self.rng.chance(2, 3) {
+            self.undisturbed(&Command::ReleaseAll)?; // refused if some are not durable
+        }
+        let view = self.view()?;
+        let live = view.next_lsn - view.head_lsn;
+        for i in live..wanted {
+            let length = self.rng.pick(&self.lengths);
+            let kind = self.rng.between(1, MAX_KIND);
+            let answer = self.undisturbed(&Command::Reserve { kind, length })?;
+            let Some(&[lsn, _position]) = answer.numbers("ok") else {
+                break;
+            };
+            self.undisturbed(&Command::Complete { lsn })?;
+            if self.rng.chance(1, 16) && i + 8 < wanted {
+                self.undisturbed(&Command::Force { lsn, frequency: 1 })?;
+            }
+        }
+        Ok(())
+    }
+
+    /// A call whose ops are all carried out.
+    fn undisturbed(&mut self, call: &Command) -> Result<Answer, String> {
+        let answer = self.subject.call(call)?;
+        self.carry_out(&answer.ops);
+        self.log.feed(call, &answer, answer.ops.len());
+        Ok(answer)
+    }
+
+    fn view(&mut self) -> Result<StateView, String> {
+        let state = self.subject.ask(&[Command::State])?;
+        StateView::parse(&state[0]).ok_or_else(|| format!("not a state: {}", state[0]))
     }
 
     /// The same beginning for every history: any old image, no state.
@@ -281,7 +341,7 @@ impl<'a> History<'a> {
             commands.push(Command::Entry { index, position: 0, length: 0, kind: 0, stage: 0 });
         }
         commands.push(Command::Cursor { position: 0, lsn: 0, used: 0, count: 0 });
-        commands.push(Command::OpBuffer { words: ROOMY_OP_BUFFER, value: 0 });
+        commands.push(Command::OpBuffer { words: roomy_op_buffer(words), value: 0 });
         for replayer in [&mut *self.subject, &mut *self.prober] {
             replayer.ask(&commands)?;
             let load = replayer.load(&image);
@@ -308,19 +368,22 @@ impl<'a> History<'a> {
 
     /// One call, which power may fail in.
     fn step(&mut self, many_records: bool) -> Result<(), String> {
-        let state = self.subject.ask(&[Command::State])?;
-        let view =
-            StateView::parse(&state[0]).ok_or_else(|| format!("not a state: {}", state[0]))?;
+        let view = self.view()?;
         let call = self.choose(&view);
         let answer = self.subject.call(&call)?;
         let all = answer.ops.len();
         let some = self.rng.below(all as u64 + 1) as usize;
-        let seldom = if many_records { 8 } else { 1 };
+        // Many records take long to walk.
+        let (seldom, full, small) = if many_records {
+            (4, Effort::FEW, Effort::FEW)
+        } else {
+            (1, Effort::FULL, Effort::SMALL)
+        };
 
         if self.rng.chance(1, 12 * seldom) {
             self.carry_out(&answer.ops[..some]);
             self.log.feed(&call, &answer, some);
-            return self.crash().map_err(|what| describe(&call, some, all, &what));
+            return self.crash(full).map_err(|what| describe(&call, some, all, &what));
         }
         if self.rng.chance(2, 5 * seldom) {
             // What if it failed here?
@@ -328,8 +391,7 @@ impl<'a> History<'a> {
             answer.ops[..some].iter().for_each(|&op| device.carry_out(op));
             let mut log = self.log.clone();
             log.feed(&call, &answer, some);
-            self.probe(&device, &log, Effort::SMALL)
-                .map_err(|what| describe(&call, some, all, &what))?;
+            self.probe(&device, &log, small).map_err(|what| describe(&call, some, all, &what))?;
         }
         self.carry_out(&answer.ops);
         self.log.feed(&call, &answer, all);
@@ -337,9 +399,9 @@ impl<'a> History<'a> {
     }
 
     /// Power fails, and perhaps again while recovering.
-    fn crash(&mut self) -> Result<(), String> {
+    fn crash(&mut self, effort: Effort) -> Result<(), String> {
         loop {
-            let images = self.probe(&self.device.clone(), &self.log.clone(), Effort::FULL)?;
+            let images = self.probe(&self.device.clone(), &self.log.clone(), effort)?;
             let image = &images[self.rng.below(images.len() as u64) as usize];
             self.device = Device::new(image);
             let load = self.subject.load(image);
@@ -361,10 +423,11 @@ impl<'a> History<'a> {
 
     fn recover_with_short_op_buffer_on_subject(&mut self) -> Result<(), String> {
         let words = self.rng.below(RECOVER_WORDS);
+        let roomy = roomy_op_buffer(self.subject.image.len() as u64);
         let answers = self.subject.calls(&[
             Command::OpBuffer { words, value: 1 },
             Command::Recover,
-            Command::OpBuffer { words: ROOMY_OP_BUFFER, value: 0 },
+            Command::OpBuffer { words: roomy, value: 0 },
         ])?;
         expect_short(&answers[0])
     }
@@ -401,6 +464,7 @@ impl<'a> History<'a> {
         let (fetched, recovered) = answers.split_at(walked.len());
         take_bytes(&mut walked, fetched)?;
         log.check(&walked)?;
+        self.report.most_records = self.report.most_records.max(walked.len());
         if short_first {
             expect_short(&recovered[0])?;
         }
@@ -542,6 +606,8 @@ impl Effort {
     const FULL: Effort = Effort { all_up_to: 300, samples: 30 };
     /// For power that might have failed.
     const SMALL: Effort = Effort { all_up_to: 16, samples: 6 };
+    /// For many records.
+    const FEW: Effort = Effort { all_up_to: 4, samples: 3 };
 }
 
 /// All images, or some, that the words' values make possible.

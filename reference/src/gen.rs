@@ -8,7 +8,7 @@ use crate::device::Device;
 use crate::layout::{
     record_check, record_size, Header, Ring, Superline, FIRST_RING_WORD, HEADER_WORDS, LSN_LIMIT,
     MARK_COMMITTED, MARK_RELEASED, MAX_EPOCH, MAX_IMAGE_WORDS, MAX_KIND, MAX_LENGTH,
-    MIN_IMAGE_WORDS, TABLE_SIZE,
+    MIN_IMAGE_WORDS, OLD_TABLE_SIZE, TABLE_SIZE,
 };
 use crate::ops::OP_WORDS;
 use crate::replay::{entry_numbers, fields, Machine};
@@ -18,12 +18,14 @@ use crate::script::{
 };
 use crate::state::{Entry, Stage, State};
 
-/// Op buffer words enough for every call: the longest reserve, a force of the whole table.
-pub const ROOMY_OP_BUFFER: u64 = {
-    let reserve = 1 + HEADER_WORDS + MAX_LENGTH / 8;
-    let force = 2 + 2 * TABLE_SIZE as u64;
-    OP_WORDS as u64 * if reserve > force { reserve } else { force }
-};
+/// Op buffer words enough for every call on an image of so many words: the longest reserve and a force of all records that there is
+/// room for, a recovery at least.
+pub fn roomy_op_buffer(words: u64) -> u64 {
+    let room = words.saturating_sub(FIRST_RING_WORD + 1);
+    let reserve = 1 + room.min(record_size(MAX_LENGTH));
+    let force = 2 + 2 * (room / HEADER_WORDS).min(TABLE_SIZE as u64);
+    OP_WORDS as u64 * reserve.max(force).max(11)
+}
 
 /// The script for a seed, as bytes.
 pub fn script(seed: u64) -> Vec<u8> {
@@ -99,7 +101,8 @@ impl Generator {
         match self.rng.below(12) {
             0..=2 => self.small_history(),
             3 => self.large_history(),
-            4 => self.full_table(),
+            4 if self.rng.chance(1, 2) => self.many_records(),
+            4 => self.small_history(),
             5 => self.unsound_states(),
             6 => self.forged_states(),
             7 => self.image_sizes(),
@@ -139,32 +142,45 @@ impl Generator {
         self.look();
     }
 
-    /// As many live records as the table takes, and one more; released in any order.
-    fn full_table(&mut self) {
-        let table_size = TABLE_SIZE as u64;
-        let words = FIRST_RING_WORD + 4 * table_size + self.rng.between(4, 200);
-        self.format(words);
-        self.send(Command::OpBuffer { words: ROOMY_OP_BUFFER, value: 3 });
-        for _ in 0..self.rng.below(20) {
+    /// More live records than the old table took, up to as many as the table takes, and one more; released in any order. The log
+    /// begins at any LSN, so that the live ones go round the end of the table too.
+    fn many_records(&mut self) {
+        let (old, most) = (OLD_TABLE_SIZE as u64, TABLE_SIZE as u64);
+        let wanted = match self.rng.below(8) {
+            0..=3 => most,
+            4 => self.rng.pick(&[old - 1, old, old + 1, most - 1]),
+            5 | 6 => self.rng.between(old + 1, old + 40),
+            _ => self.rng.between(old + 41, most - 2),
+        };
+        let words = (FIRST_RING_WORD + 4 * wanted + self.rng.between(2, 50)).max(300);
+        let head_lsn = match self.rng.below(4) {
+            0 => 1,
+            1 => LSN_LIMIT - wanted - self.rng.below(3),
+            _ => self.rng.between(1, 3 * most),
+        };
+        self.new_image(words);
+        let epoch = self.rng.between(1, MAX_EPOCH - 9);
+        self.empty_log(head_lsn, epoch);
+        self.call(Command::Recover);
+        for _ in 0..self.rng.below(9) {
             self.step();
         }
-        while self.machine.state.is_sound() && self.machine.state.live().count() < TABLE_SIZE {
+        while self.live_count() < wanted {
             let length = self.rng.below(9);
             let kind = self.rng.between(1, MAX_KIND);
-            if self.send(Command::Reserve { kind, length }).is_refused() {
+            if self.make(Command::Reserve { kind, length }).is_refused() {
                 break;
             }
         }
-        self.device = None;
         self.call(Command::Reserve { kind: 1, length: 0 });
         let mut open = self.live_in(Stage::Open);
         self.rng.shuffle(&mut open);
         for lsn in open {
-            self.call(Command::Complete { lsn });
+            self.make(Command::Complete { lsn });
         }
         let live: Vec<u64> = self.machine.state.live().collect();
         for &lsn in &live {
-            if self.rng.chance(1, 4) {
+            if self.rng.chance(1, 16) {
                 let frequency = self.frequency();
                 self.call(Command::Force { lsn, frequency });
             }
@@ -172,19 +188,39 @@ impl Generator {
         if let Some(&last) = live.last() {
             self.call(Command::Force { lsn: last, frequency: 1 });
         }
+        for _ in 0..self.rng.below(4) {
+            self.step();
+        }
+        if self.rng.chance(1, 3) {
+            self.crash();
+        }
         self.walk();
-        self.forge_record_at_end();
+        let device = self.device.take();
+        match self.rng.below(4) {
+            0 => self.damage_a_record(),
+            _ => self.forge_record_at_end(),
+        }
+        self.device = device;
 
         let mut committed = self.live_in(Stage::Committed);
         self.rng.shuffle(&mut committed);
-        for lsn in committed.into_iter().take(40) {
+        for lsn in committed.into_iter().take(30) {
             self.call(Command::Release { lsn });
             if self.rng.chance(1, 8) {
                 self.step();
             }
         }
-        self.walk();
         self.call(Command::ReleaseAll);
+        self.look();
+    }
+
+    fn live_count(&self) -> u64 {
+        let state = &self.machine.state;
+        if state.is_sound() {
+            state.next_lsn - state.head_lsn
+        } else {
+            u64::MAX
+        }
     }
 
     /// Breaks one thing in a sound state at a time and calls.
@@ -221,7 +257,7 @@ impl Generator {
             let words = self.rng.pick(&sizes);
             let value = self.rng.pick(&[0, 1, u64::MAX, 281_474_976_710_656]);
             self.send(Command::Image { words, value });
-            let op_words = self.rng.pick(&[0, 32, 33, 34, ROOMY_OP_BUFFER]);
+            let op_words = self.rng.pick(&[0, 32, 33, 34, roomy_op_buffer(words)]);
             self.send(Command::OpBuffer { words: op_words, value: 7 });
             if self.rng.chance(1, 2) {
                 let capacity = words.wrapping_sub(FIRST_RING_WORD);
@@ -305,68 +341,67 @@ impl Generator {
         let words = self.rng.between(40, 200);
         let steps = self.rng.between(10, 60);
         self.history(words, steps);
+        for _ in 0..12 {
+            self.damage_a_record();
+        }
+    }
+
+    /// Damages a word of a record that a walk meets, walks, recovers, and puts the image back.
+    fn damage_a_record(&mut self) {
         let good = self.machine.image.clone();
         let Ok((records, end)) = crate::calls::walk(&good) else {
             return;
         };
         let ring = Ring::of_image(&good).expect("a history's image has a good size");
-        for _ in 0..12 {
-            let (position, length) = match records.len() as u64 {
-                0 => (end.position, 0),
-                count => {
-                    let record = records[self.rng.below(count) as usize];
-                    (record.position, record.length)
-                }
-            };
-            let size = record_size(length);
-            match self.rng.below(3) {
-                0 => {
-                    // Also the terminator behind it.
-                    let word = ring.word(position, self.rng.below(size + 1));
-                    let value = good[word as usize] ^ 1 << self.rng.below(64);
-                    self.send(Command::Poke { word, value });
-                }
-                1 => {
-                    let mut header = Header::of_word(ring.read(&good, position, 0));
-                    match self.rng.below(3) {
-                        0 => header.length = self.rng.pick(&[0, 1, 1_024, 1_025, u32::MAX as u64]),
-                        1 => header.kind = self.rng.pick(&[0, 1, MAX_KIND]),
-                        _ => header.mark = self.rng.pick(&[0, 1, 2, 3, 65_535]),
-                    }
-                    self.poke_header_with_check(ring, position, header);
-                }
-                _ => {
-                    let lsn = ring.read(&good, position, 1);
-                    let value =
-                        self.rng.pick(&[0, lsn.wrapping_sub(1), lsn.wrapping_add(1), LSN_LIMIT]);
-                    self.send(Command::Poke { word: ring.word(position, 1), value });
-                    let header = Header::of_word(ring.read(&good, position, 0));
-                    self.poke_header_with_check(ring, position, header);
-                }
+        let (position, length) = match records.len() as u64 {
+            0 => (end.position, 0),
+            count => {
+                // Where the old table ended, too.
+                let first_behind = records.get(OLD_TABLE_SIZE).filter(|_| self.rng.chance(1, 3));
+                let record = *first_behind.unwrap_or(&records[self.rng.below(count) as usize]);
+                (record.position, record.length)
             }
-            self.walk();
-            self.call(Command::Recover);
-            self.set_image(&good);
+        };
+        let size = record_size(length);
+        match self.rng.below(3) {
+            0 => {
+                // Also the terminator behind it.
+                let word = ring.word(position, self.rng.below(size + 1));
+                let value = good[word as usize] ^ 1 << self.rng.below(64);
+                self.send(Command::Poke { word, value });
+            }
+            1 => {
+                let mut header = Header::of_word(ring.read(&good, position, 0));
+                match self.rng.below(3) {
+                    0 => header.length = self.rng.pick(&[0, 1, 1_024, 1_025, u32::MAX as u64]),
+                    1 => header.kind = self.rng.pick(&[0, 1, MAX_KIND]),
+                    _ => header.mark = self.rng.pick(&[0, 1, 2, 3, 65_535]),
+                }
+                self.poke_header_with_check(ring, position, header);
+            }
+            _ => {
+                let lsn = ring.read(&good, position, 1);
+                let value =
+                    self.rng.pick(&[0, lsn.wrapping_sub(1), lsn.wrapping_add(1), LSN_LIMIT]);
+                self.send(Command::Poke { word: ring.word(position, 1), value });
+                let header = Header::of_word(ring.read(&good, position, 0));
+                self.poke_header_with_check(ring, position, header);
+            }
         }
+        self.walk();
+        let state = self.machine.state.clone();
+        self.call(Command::Recover);
+        self.set_state(&state);
+        self.set_image(&good);
     }
 
     /// LSNs near 2^62, epochs near 2^32 - 1.
     fn last_numbers(&mut self) {
         let words = self.rng.between(40, 100);
         self.new_image(words);
-        let superline = Superline {
-            capacity: words - FIRST_RING_WORD,
-            head_position: self.rng.below(words - FIRST_RING_WORD),
-            head_lsn: LSN_LIMIT - self.rng.below(7),
-            epoch: MAX_EPOCH - self.rng.below(5),
-        };
-        let copy = self.rng.below(2);
-        self.poke_superline(copy, superline);
-        self.send(Command::Poke { word: 0, value: copy });
-        let head_word = FIRST_RING_WORD + superline.head_position;
-        let unmarked = self.rng.pick(&[0, 1, 65_535 << 32]);
-        self.send(Command::Poke { word: head_word, value: unmarked });
-        self.device = Some(Device::new(&self.machine.image));
+        let head_lsn = LSN_LIMIT - self.rng.below(7);
+        let epoch = MAX_EPOCH - self.rng.below(5);
+        self.empty_log(head_lsn, epoch);
         for _ in 0..self.rng.between(2, 6) {
             self.walk();
             self.call(Command::Recover);
@@ -378,6 +413,19 @@ impl Generator {
         // A marked record where no LSN is left.
         self.walk();
         self.forge_record_at_end();
+    }
+
+    /// Makes the image an empty log with this head LSN and epoch, its head anywhere; to be recovered.
+    fn empty_log(&mut self, head_lsn: u64, epoch: u64) {
+        let capacity = self.machine.image.len() as u64 - FIRST_RING_WORD;
+        let head_position = self.rng.below(capacity);
+        let copy = self.rng.below(2);
+        self.poke_superline(copy, Superline { capacity, head_position, head_lsn, epoch });
+        self.send(Command::Poke { word: 0, value: copy });
+        let head_word = FIRST_RING_WORD + head_position;
+        let unmarked = self.rng.pick(&[0, 1, 65_535 << 32]);
+        self.send(Command::Poke { word: head_word, value: unmarked });
+        self.device = Some(Device::new(&self.machine.image));
     }
 
     fn odd_cursors(&mut self) {
@@ -396,9 +444,9 @@ impl Generator {
                 1 => cursor.lsn = self.rng.pick(&[0, 1, LSN_LIMIT, LSN_LIMIT + 1, u64::MAX]),
                 2 => cursor.used = self.rng.pick(&edges),
                 3 => {
-                    let table_size = TABLE_SIZE as u64;
+                    let (old, most) = (OLD_TABLE_SIZE as u64, TABLE_SIZE as u64);
                     cursor.count =
-                        self.rng.pick(&[table_size - 1, table_size, table_size + 1, u64::MAX]);
+                        self.rng.pick(&[old, old + 1, most - 1, most, most + 1, u64::MAX]);
                 }
                 4 => {
                     cursor.used = self.rng.below(capacity);
@@ -659,7 +707,7 @@ impl Generator {
             0 => 1,
             1 => self.rng.between(1, 200),
             2 => self.rng.between(1, LSN_LIMIT),
-            3 => LSN_LIMIT - self.rng.below(70),
+            3 => LSN_LIMIT - self.rng.below(TABLE_SIZE as u64 + 6),
             _ => LSN_LIMIT - self.rng.below(4),
         };
         let head_position = self.rng.below(capacity);
@@ -675,7 +723,8 @@ impl Generator {
             },
             ..State::fresh(capacity)
         };
-        let wanted = self.rng.pick(&[0, 1, 2, 5, 20, TABLE_SIZE as u64 - 1, TABLE_SIZE as u64]);
+        let (old, most) = (OLD_TABLE_SIZE as u64, TABLE_SIZE as u64);
+        let wanted = self.rng.pick(&[0, 1, 2, 5, 20, old, old + 1, most - 1, most]);
         let longest = self.rng.pick(&[0, 8, 30, MAX_LENGTH]);
         let mut used = 0;
         for _ in 0..wanted {
@@ -826,7 +875,7 @@ impl Generator {
     }
 
     fn roomy_op_buffer(&mut self) {
-        let words = ROOMY_OP_BUFFER + self.rng.below(4);
+        let words = roomy_op_buffer(self.machine.image.len() as u64) + self.rng.below(4);
         let value = self.rng.next_u64();
         self.send(Command::OpBuffer { words, value });
     }
@@ -971,7 +1020,8 @@ impl Generator {
     /// Small numbers, numbers at limits, any numbers.
     fn number(&mut self) -> u64 {
         match self.rng.below(4) {
-            0 | 1 => self.rng.below(70),
+            0 => self.rng.below(70),
+            1 => self.rng.below(TABLE_SIZE as u64 + 14),
             2 => {
                 let limits = [
                     u64::MAX,
@@ -1005,15 +1055,26 @@ impl Generator {
             answer = Some(self.send(command));
         }
         let answer = answer.expect("the call was made");
+        self.carry_out(&answer);
+        answer
+    }
+
+    /// Writes a writing call down, with the op buffer as it is.
+    fn make(&mut self, command: Command) -> Answer {
+        let answer = self.send(command);
+        self.carry_out(&answer);
+        answer
+    }
+
+    fn carry_out(&mut self, answer: &Answer) {
         if let Some(device) = &mut self.device {
             answer.ops.iter().for_each(|&op| device.carry_out(op));
         }
-        answer
     }
 
     fn call_with_tight_op_buffers(&mut self, command: &Command) -> Option<Answer> {
         let mut trial = self.machine.clone();
-        trial.op_buffer = vec![0; ROOMY_OP_BUFFER as usize];
+        trial.op_buffer = vec![0; roomy_op_buffer(trial.image.len() as u64) as usize];
         let answer = trial.run(command).and_then(|line| Answer::parse(&line))?;
         let needed = (OP_WORDS * answer.ops.len()) as u64;
         if needed == 0 {

@@ -7,29 +7,36 @@ use crate::gen;
 use crate::layout::{
     record_check, record_size, Header, Superline, FIRST_RING_WORD, LSN_LIMIT, MARK_COMMITTED,
     MARK_RELEASED, MAX_CAPACITY, MAX_EPOCH, MAX_IMAGE_WORDS, MAX_KIND, MAX_LENGTH, MIN_CAPACITY,
-    MIN_IMAGE_WORDS, TABLE_SIZE,
+    MIN_IMAGE_WORDS, OLD_TABLE_SIZE, TABLE_SIZE,
 };
 use crate::rng::Rng;
-use crate::samples::{Record, Written};
+use crate::samples::{full_image_length, Record, Written};
 
 /// The name of a sort, and how an image of it is made.
 pub type Sort = (&'static str, fn(&mut Rng) -> Vec<u8>);
 
-pub const SORTS: [Sort; 36] = [
+pub const SORTS: [Sort; 41] = [
     // Whole logs.
     ("few records", |rng| whole(rng, 0, 8, 0)),
     ("some released", |rng| whole(rng, 1, 20, 2)),
     ("all released", |rng| whole(rng, 1, 20, 1)),
+    ("old table's neighbours", |rng| whole(rng, OLD_TABLE_SIZE - 1, OLD_TABLE_SIZE + 1, 5)),
+    ("more than the old table", |rng| whole(rng, OLD_TABLE_SIZE + 2, TABLE_SIZE - 2, 5)),
+    ("nearly full table", |rng| whole(rng, TABLE_SIZE - 1, TABLE_SIZE - 1, 5)),
     ("full table", |rng| whole(rng, TABLE_SIZE, TABLE_SIZE, 5)),
-    ("full image", full_image),
+    ("full image of 64", |rng| full_image(rng, OLD_TABLE_SIZE)),
+    ("full image of 256", |rng| full_image(rng, TABLE_SIZE)),
     ("longest payload", longest_payload),
     ("last LSNs", last_lsns),
     ("padding set", padding_set),
     ("a history's image", |rng| gen::image(rng.next_u64())),
     // Too many records.
     ("too many", |rng| too_many(rng).bytes()),
-    ("too many, the 65th damaged", |rng| wreck(rng, too_many, TABLE_SIZE..TABLE_SIZE + 1)),
+    ("too many, the 257th damaged", |rng| wreck(rng, too_many, TABLE_SIZE..TABLE_SIZE + 1)),
     ("damage before too many", |rng| wreck(rng, too_many, 0..TABLE_SIZE)),
+    ("damage where the old table ended", |rng| {
+        wreck(rng, many, OLD_TABLE_SIZE - 1..OLD_TABLE_SIZE + 2)
+    }),
     // Damage in one record.
     ("mark", |rng| header(rng, |rng, good| Header { mark: rng.between(3, 65_535), ..good })),
     ("kind", |rng| header(rng, |_, good| Header { kind: 0, ..good })),
@@ -82,7 +89,7 @@ pub const SORTS: [Sort; 36] = [
         some_log(rng).bytes()[..8 * words as usize].to_vec()
     }),
     ("too long", |rng| {
-        let mut bytes = full_image(rng);
+        let mut bytes = full_image(rng, OLD_TABLE_SIZE);
         bytes.resize(8 * rng.pick(&[MAX_IMAGE_WORDS + 1, MAX_IMAGE_WORDS + 100]) as usize, 0);
         bytes
     }),
@@ -100,7 +107,7 @@ pub fn image(seed: u64) -> (&'static str, Vec<u8>) {
 
 // ---------------------------------------------------------------- logs
 
-/// So many records; one in `released` is released, none if that is 0.
+/// So many records, all of them small if they are many; one in `released` is released, none if that is 0.
 fn records(rng: &mut Rng, count: usize, released: u64) -> Vec<Record> {
     let one = |_| {
         let mark = match released {
@@ -110,7 +117,7 @@ fn records(rng: &mut Rng, count: usize, released: u64) -> Vec<Record> {
         };
         let length = match rng.below(10) {
             0 => 0,
-            1 => rng.below(800),
+            1 if count <= OLD_TABLE_SIZE => rng.below(800),
             2 => rng.below(100),
             _ => rng.below(20),
         };
@@ -154,14 +161,14 @@ fn whole(rng: &mut Rng, least: usize, most: usize, released: u64) -> Vec<u8> {
     log(rng, &records, spare).bytes()
 }
 
-/// 8,192 words, all but 39 of them in 64 records.
-fn full_image(rng: &mut Rng) -> Vec<u8> {
+/// 8,192 words, as many of them as can be in so many records alike.
+fn full_image(rng: &mut Rng, count: usize) -> Vec<u8> {
     let one = |_| Record {
         kind: rng.between(1, MAX_KIND),
         mark: MARK_COMMITTED,
-        payload: rng.bytes(991),
+        payload: rng.bytes(full_image_length(count as u64)),
     };
-    let records: Vec<Record> = (0..TABLE_SIZE).map(one).collect();
+    let records: Vec<Record> = (0..count).map(one).collect();
     log(rng, &records, MAX_CAPACITY).bytes()
 }
 
@@ -191,6 +198,13 @@ fn padding_set(rng: &mut Rng) -> Vec<u8> {
 }
 
 // ---------------------------------------------------------------- too many
+
+/// More records than the old table took, and not too many.
+fn many(rng: &mut Rng) -> Written {
+    let count = rng.between(OLD_TABLE_SIZE as u64 + 2, TABLE_SIZE as u64) as usize;
+    let records = records(rng, count, 3);
+    log(rng, &records, 9)
+}
 
 fn too_many(rng: &mut Rng) -> Written {
     let count = rng.between(TABLE_SIZE as u64 + 1, TABLE_SIZE as u64 + 6) as usize;

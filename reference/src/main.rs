@@ -7,6 +7,7 @@ use reference::cover::Coverage;
 use reference::crash::{crash_bench, Program};
 use reference::demo::demo;
 use reference::gen;
+use reference::layout::OLD_TABLE_SIZE;
 use reference::loglist::{loglist, read_image_bytes};
 use reference::logwhy::{compare_logwhy, logwhy, read_input};
 use reference::replay::replay;
@@ -28,7 +29,7 @@ usage: reference demo                    tell the story that the program demo te
        reference gen SEED                write one random script to standard output
        reference gen SEED N DIR          write N scripts as DIR/script-<seed>.bin
        reference image SEED              write an image from that script, perhaps damaged
-       reference full-image              write a full image of 8,192 words
+       reference full-image [RECORDS]    write an image of 8,192 words full of 64 or so many records
        reference compare REPLAY LOGLIST SEED N
                                          compare two other programs with ours on N seeds
        reference c-calls DRIVER SEED N   compare the calls that a C program makes with ours, on N images
@@ -84,7 +85,11 @@ fn run(args: &[&str]) -> io::Result<ExitCode> {
             }
         }
         ["image", seed] => stdout.write_all(&gen::image(parse(seed)?))?,
-        ["full-image"] => stdout.write_all(&full_image())?,
+        ["full-image"] => stdout.write_all(&full_image(OLD_TABLE_SIZE as u64))?,
+        ["full-image", records] => match parse(records)? {
+            records @ 1..=256 => stdout.write_all(&full_image(records))?,
+            _ => return Err(invalid(format!("not 1 to 256 records: {records}"))),
+        },
         ["compare", replay, loglist, seed, count] => {
             let result =
                 compare(Path::new(replay), Path::new(loglist), parse(seed)?, parse(count)?)?;

@@ -4,7 +4,7 @@
 
 use crate::layout::{
     record_check, record_size, Header, Ring, Superline, FIRST_RING_WORD, LSN_LIMIT, MARK_COMMITTED,
-    MARK_RELEASED, TABLE_SIZE,
+    MARK_RELEASED, MAX_CAPACITY, MAX_IMAGE_WORDS, MAX_LENGTH, OLD_TABLE_SIZE, TABLE_SIZE,
 };
 use crate::loglist::HEADING;
 
@@ -121,12 +121,18 @@ pub fn samples() -> Vec<Sample> {
     samples
 }
 
-/// The fullest image that a listing can meet: 8,192 words, all but a few of them in 64 records.
-pub fn full_image() -> Vec<u8> {
-    let records: Vec<Record> = (0..TABLE_SIZE as u8)
-        .map(|i| record(u64::from(i) + 1, MARK_COMMITTED, &[i; 991]))
-        .collect();
-    Written::new(8192, 0, 1, &records).bytes()
+/// The longest payload, in bytes, of so many records alike in an image of 8,192 words that leaves a byte of each one's last word
+/// unused: 991 for 64 records, 223 for 256.
+pub fn full_image_length(records: u64) -> u64 {
+    (8 * ((MAX_CAPACITY - 1) / records - 3) - 1).min(MAX_LENGTH)
+}
+
+/// An image of 8,192 words that is full of so many records, at most 256.
+pub fn full_image(records: u64) -> Vec<u8> {
+    let length = full_image_length(records) as usize;
+    let records: Vec<Record> =
+        (0..records).map(|i| record(i + 1, MARK_COMMITTED, &vec![i as u8; length])).collect();
+    Written::new(MAX_IMAGE_WORDS as usize, 0, 1, &records).bytes()
 }
 
 fn sample(name: impl Into<String>, bytes: Vec<u8>, text: impl Into<String>) -> Sample {
@@ -144,7 +150,13 @@ fn listings() -> Vec<Sample> {
     };
     whole("none", 40, 0, 1, vec![]);
     whole("one", 40, 0, 1, some(1));
-    whole("sixty-four", 400, 7, 100, some(TABLE_SIZE));
+    // The old table's neighbours, and the most that are no longer too many.
+    for count in [OLD_TABLE_SIZE - 1, OLD_TABLE_SIZE, OLD_TABLE_SIZE + 1] {
+        whole(&format!("{count}-records"), 400, 7, 100, some(count));
+    }
+    for count in [TABLE_SIZE - 1, TABLE_SIZE] {
+        whole(&format!("{count}-records"), 1_100, 1_000, 200, some(count));
+    }
     whole("empty-payload", 40, 0, 1, vec![record(65_535, MARK_COMMITTED, &[])]);
     let long: Vec<u8> = (0..1024u32).map(|i| i as u8).collect();
     whole("longest-payload", 200, 3, 9, vec![record(2, MARK_COMMITTED, &long)]);
@@ -160,8 +172,26 @@ fn listings() -> Vec<Sample> {
     whole("all-released", 60, 0, 1, released(&[0, 1, 2, 3]));
     whole("largest-image", 8192, 8000, 5, some(40));
 
-    let too_many = Written::new(400, 0, 100, &some(TABLE_SIZE + 1));
-    samples.push(sample("sixty-five", too_many.bytes(), too_many.text(TABLE_SIZE, "toomany", 164)));
+    let many = |count: usize| Written::new(1_100, 0, 100, &some(count));
+    let too_many = |written: &Written| written.text(256, "toomany", 356);
+    let one_more = many(257);
+    samples.push(sample("257-records", one_more.bytes(), too_many(&one_more)));
+    // The 257th is not looked at, the 256th and the 65th are.
+    let mut damaged = |count: usize, which: usize| {
+        let mut written = many(count);
+        let position = written.positions[which - 1];
+        *written.word(position, 2) ^= 1;
+        let text = match which {
+            257 => too_many(&written),
+            _ => written.text(which - 1, "damaged check", 99 + which as u64),
+        };
+        let name = format!("{count}-records-{which}th-damaged");
+        samples.push(sample(name, written.bytes(), text));
+    };
+    damaged(257, 257);
+    damaged(257, 256);
+    damaged(65, 65);
+    damaged(100, 65);
     samples
 }
 

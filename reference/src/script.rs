@@ -238,8 +238,22 @@ impl Answer {
     }
 }
 
-/// The digest of a list of values.
+/// The digest of a list of values. Four steps are made at once, which saves three of four divisions by the prime that wait for each
+/// other: most of what replay does is making digests.
 pub fn digest(values: impl IntoIterator<Item = u64>) -> u64 {
     const PRIME: u64 = 2_147_483_647;
-    values.into_iter().fold(7, |hash, value| (hash * 31 + value % PRIME) % PRIME)
+    let mut values = values.into_iter().map(|value| value % PRIME).fuse();
+    let mut hash = 7;
+    while let Some(a) = values.next() {
+        hash = match (values.next(), values.next(), values.next()) {
+            (Some(b), Some(c), Some(d)) => {
+                hash * (31 * 31 * 31 * 31) + a * (31 * 31 * 31) + b * (31 * 31) + c * 31 + d
+            }
+            (b, c, _) => [b, c]
+                .into_iter()
+                .flatten()
+                .fold(hash * 31 + a, |hash, value| hash % PRIME * 31 + value),
+        } % PRIME;
+    }
+    hash
 }

@@ -187,7 +187,9 @@ impl Script {
         self.poke(MOST, 99);
         self.next();
         self.recover();
-        self.cursor(19, 4, 0, 64);
+        self.cursor(19, 4, 0, 256);
+        self.next();
+        self.cursor(19, 4, 0, 257);
         self.next();
         self.cursor(40, 4, 0, 0);
         self.next();
@@ -196,26 +198,45 @@ impl Script {
         self.recover();
     }
 
-    /// Lines that are long: 300 words, and a force of 64 records.
+    /// Lines that are long: 300 words, a force of 256 records, a full table. All but the last records are put into the table by hand,
+    /// which prints nothing. Then the records with LSN 257 and 258 come to the table's entries 1 and 2.
     fn a_full_table(&mut self) {
         self.image(300, MOST);
         self.print_words(0, 300);
-        self.op_buffer(2_000, 0);
-        self.format();
-        for _ in 0..65 {
-            self.reserve(1, 0);
-        }
-        for lsn in 1..=64 {
-            self.complete(lsn);
-        }
-        self.op_buffer(100, 0);
-        self.force(64, 64);
-        self.op_buffer(2_000, 0);
-        self.force(64, 64);
         self.print_words(290, 5);
         self.print_words(300, 1);
         self.print_words(298, MOST);
+        self.image(800, MOST);
+        self.op_buffer(33, 0);
+        self.format();
+        for lsn in 1..=253 {
+            self.entry(lsn, 3 * (lsn - 1), 0, 1, 2);
+        }
+        self.field(3, 3 * 253);
+        self.field(4, 254);
+        for _ in 254..=257 {
+            self.reserve(1, 0);
+        }
+        for lsn in 254..=256 {
+            self.complete(lsn);
+        }
+        self.op_buffer(1_538, 0);
+        self.force(256, 256);
+        self.op_buffer(1_539, 0);
+        self.force(256, 256);
+        self.release(3);
+        self.reserve(1, 0);
+        self.release(1);
+        self.reserve(2, 0);
+        self.release(2);
+        self.reserve(3, 0);
+        self.complete(257);
+        self.force(257, 1);
+        self.print_state();
+        self.complete(258);
+        self.force(258, 1);
         self.release_all();
+        self.print_state();
     }
 
     /// No LSN left, an area that is not the image's, fields and entries out of range.
@@ -235,7 +256,9 @@ impl Script {
         self.field(6, 1);
         self.field(7, 4_294_967_295);
         self.field(8, 1);
-        self.entry(64 + 3, 65_536 + 1, 65_536 + 2, 65_536 + 3, 4);
+        self.entry(256 + 3, 65_536 + 1, 65_536 + 2, 65_536 + 3, 4);
+        self.entry(64 + 3, 1, 2, 3, 1);
+        self.entry(255, 1, 2, 3, 1);
         self.entry(4, 1, 2, 3, 1);
         self.entry(5, 1, 2, 3, 2);
         self.entry(6, 1, 2, 3, 3);

@@ -1,5 +1,6 @@
 //! How long programs take to list a full image, in turn, by the median of many rounds.
 
+use crate::layout::OLD_TABLE_SIZE;
 use crate::samples::full_image;
 use std::io::{self, Read, Write};
 use std::path::Path;
@@ -8,7 +9,7 @@ use std::time::{Duration, Instant};
 
 /// The median time of each program over so many rounds; the programs take turns.
 pub fn list_times(programs: &[&Path], rounds: usize) -> io::Result<Vec<Duration>> {
-    let image = full_image();
+    let image = full_image(OLD_TABLE_SIZE as u64);
     let mut times = vec![Vec::new(); programs.len()];
     for _ in 0..rounds {
         for (program, times) in programs.iter().zip(&mut times) {

@@ -25,7 +25,7 @@ impl Log {
     /// A fresh log whose ring has `capacity` words.
     fn fresh(capacity: usize) -> Log {
         let mut image = vec![0x5555_5555; capacity + 24];
-        let mut op_buffer = vec![0; 1_000];
+        let mut op_buffer = vec![0; 1_600];
         let state = format(&mut image, &mut op_buffer).unwrap().answer;
         Log { image, op_buffer, state }
     }
@@ -291,7 +291,7 @@ fn loglist_sample() {
 
 #[test]
 fn loglist_other_endings() {
-    let mut log = Log::fresh(300);
+    let mut log = Log::fresh(1_000);
     for lsn in 1..=3 {
         log.reserve(lsn, 0).unwrap();
         log.complete(lsn).unwrap();
@@ -305,13 +305,13 @@ fn loglist_other_endings() {
     damaged[24 + 7] = 9; // the LSN of record 3
     assert_eq!(loglist(&bytes(&damaged)), format!("{heading}1 1 0 -\ndamaged 3 LSN\n"));
 
-    for lsn in 4..=64 {
+    for lsn in 4..=256 {
         log.reserve(lsn, 0).unwrap();
         log.complete(lsn).unwrap();
     }
-    log.force(64, 1).unwrap();
-    log.image[24 + 64 * 3] = 1 << 48;
-    assert!(loglist(&bytes(&log.image)).ends_with("\n64 64 0 -\ntoomany 65\n"));
+    log.force(256, 1).unwrap();
+    log.image[24 + 256 * 3] = 1 << 48;
+    assert!(loglist(&bytes(&log.image)).ends_with("\n256 256 0 -\ntoomany 257\n"));
 }
 
 #[test]

@@ -5,6 +5,9 @@ use reference::shortcut::Shortcut;
 use std::path::PathBuf;
 use std::time::Duration;
 
+/// The seed of a history that fills the table.
+const MANY_RECORDS: u64 = 131;
+
 fn bench(shortcut: Option<usize>, seed: u64, seconds: u64) -> Report {
     let mut args = vec!["replay".to_string()];
     if let Some(number) = shortcut {
@@ -19,6 +22,14 @@ fn no_failure_without_a_short_cut() {
     let report = bench(None, 77, 4);
     assert!(report.failure.is_none(), "{:?}", report.failure);
     assert!(report.images > 100);
+}
+
+/// The first history of this seed has many records.
+#[test]
+fn more_records_than_the_old_table_took() {
+    let report = bench(None, MANY_RECORDS, 1);
+    assert!(report.failure.is_none(), "{:?}", report.failure);
+    assert_eq!(report.most_records, 256);
 }
 
 #[test]

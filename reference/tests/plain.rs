@@ -144,7 +144,9 @@ fn same_records(bytes: &[u8]) {
         Ok(count) => {
             assert_eq!(query::count(bytes), count as i64);
             assert_eq!(records.len() as u64, count);
-            for (index, (kind, lsn, payload)) in (0..).zip(records) {
+            // Each answer takes a walk of its own.
+            let step = 1 + records.len() / 40;
+            for (index, (kind, lsn, payload)) in (0..).zip(records).step_by(step) {
                 let mut output = vec![0; payload.len()];
                 assert_eq!(query::kind(bytes, index), kind);
                 assert_eq!(query::lsn(bytes, index), lsn);
@@ -163,7 +165,8 @@ fn images_of_every_sort() {
     for seed in 0..4 * SORTS.len() as u64 {
         same_records(&image(seed).1);
     }
-    same_records(&full_image());
+    same_records(&full_image(64));
+    same_records(&full_image(256));
 }
 
 /// Histories that wrap around, full tables, unsound and forged states, all image sizes, damaged superlines and records, last
@@ -224,35 +227,52 @@ fn long_histories() {
     assert!(met.kinds.contains(&("reserve", Ok(132 / 8))));
 }
 
-/// Tables filled, forced in one stretch, and given back in any order.
+/// Tables filled, forced in one stretch, and given back in any order; in between, states in which one number is another.
 #[test]
 fn full_tables() {
     let mut met = Met::default();
     let mut rng = Rng::new(1);
     let mut machine = Machine::default();
-    machine.run(&Command::Image { words: 700, value: 0 });
+    machine.run(&Command::Image { words: 1_900, value: 0 });
     machine.run(&Command::OpBuffer { words: 8_192, value: 7 });
     run_both(&mut machine, &Command::Format, &mut met);
-    for round in 0..20 {
-        let mut lsns: Vec<u64> = (64 * round + 1..=64 * round + 64).collect();
+    // One record before the first round, so that no round ends where the table does.
+    for call in [
+        Command::Reserve { kind: 1, length: 9 },
+        Command::Complete { lsn: 1 },
+        Command::Force { lsn: 1, frequency: 1 },
+        Command::Release { lsn: 1 },
+    ] {
+        run_both(&mut machine, &call, &mut met);
+    }
+    for round in 0..6 {
+        let mut lsns: Vec<u64> = (256 * round + 2..=256 * round + 257).collect();
         for &lsn in &lsns {
             let bytes = rng.bytes(lsn % 50);
             let length = bytes.len() as u64;
             run_both(&mut machine, &Command::Reserve { kind: lsn, length }, &mut met);
             run_both(&mut machine, &Command::Copy { lsn, offset: 0, bytes }, &mut met);
             run_both(&mut machine, &Command::Complete { lsn }, &mut met);
+            if rng.chance(1, 2) {
+                let mut other = machine.clone();
+                change_a_number(&mut rng, &mut other);
+                run_both(&mut other, &Command::Force { lsn, frequency: 1 }, &mut met);
+            }
         }
         run_both(&mut machine, &Command::Reserve { kind: 1, length: 1 }, &mut met);
-        run_both(&mut machine, &Command::Force { lsn: lsns[63], frequency: 1 }, &mut met);
+        run_both(&mut machine, &Command::Force { lsn: lsns[255], frequency: 1 }, &mut met);
         rng.shuffle(&mut lsns);
-        for lsn in lsns {
+        for (i, &lsn) in lsns.iter().enumerate() {
             run_both(&mut machine, &Command::Release { lsn }, &mut met);
-            run_both(&mut machine.clone(), &Command::Recover, &mut met);
+            if i % 8 == 0 {
+                run_both(&mut machine.clone(), &Command::Recover, &mut met);
+            }
         }
     }
-    assert_eq!(machine.state.head_lsn, 1_281);
+    assert_eq!(machine.state.head_lsn, 6 * 256 + 2);
     assert!(met.kinds.contains(&("reserve", Err(9))));
-    assert!(met.kinds.contains(&("force", Ok(129 / 8))));
+    assert!(met.kinds.contains(&("force", Err(2))));
+    assert!(met.kinds.contains(&("force", Ok(513 / 8))));
 }
 
 /// A state that is sound but for one length, kind or count of records.
@@ -263,7 +283,7 @@ fn barely_unsound_states() {
         (1_024, 1, 0, None),
         (1_025, 1, 0, Some(2)),
         (1_024, 0, 0, Some(2)),
-        (1_024, 1, 64, Some(2)),
+        (1_024, 1, 256, Some(2)),
     ] {
         let mut machine = Machine::default();
         machine.run(&Command::Image { words: 400, value: 0 });
@@ -336,7 +356,8 @@ fn listings() {
     for sample in samples() {
         same_list(&sample.bytes);
     }
-    same_list(&full_image());
+    same_list(&full_image(64));
+    same_list(&full_image(256));
 }
 
 #[test]
@@ -355,5 +376,5 @@ fn checks() {
 #[test]
 fn sizes() {
     assert_eq!(size_of::<plain::Entry>(), 8);
-    assert_eq!(size_of::<plain::State>(), 8 * 8 + 64 * 8);
+    assert_eq!(size_of::<plain::State>(), 8 * 8 + 256 * 8);
 }

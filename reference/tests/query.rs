@@ -136,11 +136,15 @@ fn an_empty_payload_needs_no_room() {
 }
 
 #[test]
-fn a_full_image_has_sixty_four() {
-    let bytes = full_image();
-    assert_eq!(count(&bytes), 64);
-    assert_eq!(lsn(&bytes, 63), 64);
-    assert_eq!(payload_in(&bytes, 63, 991), (991, vec![63; 991]));
+fn full_images_have_64_and_256() {
+    for (records, length) in [(64, 991), (256, 223)] {
+        let bytes = full_image(records);
+        assert_eq!(bytes.len(), 8 * 8_192);
+        assert_eq!(count(&bytes), records as i64);
+        assert_eq!(lsn(&bytes, records - 1), records as i64);
+        let owed = vec![(records - 1) as u8; length as usize];
+        assert_eq!(payload_in(&bytes, records - 1, length as usize), (length, owed));
+    }
 }
 
 /// What each sort of image owes to the counting call: a number, 1 for any value. Two of them where a sort has images of both.
@@ -148,9 +152,11 @@ fn a_full_image_has_sixty_four() {
 fn every_sort_of_image_is_what_its_name_says() {
     let owed = |name: &str| -> &[i64] {
         match name {
-            "few records" | "some released" | "all released" | "full table" | "full image" => &[1],
+            "few records" | "some released" | "all released" | "old table's neighbours" => &[1],
+            "more than the old table" | "nearly full table" | "full table" => &[1],
+            "full image of 64" | "full image of 256" => &[1],
             "longest payload" | "last LSNs" | "padding set" => &[1],
-            "too many" | "too many, the 65th damaged" => &[-13],
+            "too many" | "too many, the 257th damaged" => &[-13],
             // A bit may be padding, or one behind the end; and what just fits is no damage.
             "payload" | "fit" => &[1, -12],
             "selector" | "other copy" | "first word" | "capacity" | "head position" => &[-4],

@@ -14,7 +14,7 @@ use reference::state::{Entry, Stage, State};
 fn fresh(capacity: u64) -> Machine {
     let mut machine = Machine::default();
     machine.run(&Command::Image { words: capacity + 24, value: 0x0102_0304_0506_0708 });
-    machine.run(&Command::OpBuffer { words: 400, value: 9 });
+    machine.run(&Command::OpBuffer { words: 1_600, value: 9 });
     ok(&mut machine, Command::Format);
     machine
 }
@@ -135,7 +135,7 @@ fn refusal_2_unsound_states() {
         ("next LSN 2^64 - 1", |s| s.next_lsn = u64::MAX),
         ("next LSN one too high", |s| s.next_lsn += 1),
         ("next LSN one too low", |s| s.next_lsn -= 1),
-        ("65 live", |s| s.next_lsn = s.head_lsn + 65),
+        ("257 live", |s| s.next_lsn = s.head_lsn + 257),
         ("head place one too high", |s| s.head_position += 1),
         ("head place C", |s| s.head_position = s.capacity),
         ("head place 2^64 - 1", |s| s.head_position = u64::MAX),
@@ -202,11 +202,18 @@ fn refusal_2_cursors() {
         Cursor { lsn: LSN_LIMIT + 1, ..good },
         Cursor { used: 100, ..good },
         Cursor { used: u64::MAX, ..good },
-        Cursor { count: 65, ..good },
+        Cursor { count: 257, ..good },
         Cursor { count: u64::MAX, ..good },
     ] {
         refused(&but(&machine, |machine| machine.cursor = bad), Command::Next, 2, 0);
     }
+    // A count of 256 may be, and stands before the end or a record too many.
+    for count in [64, 65, 255, 256] {
+        let at_end = Cursor { position: 15, lsn: 4, used: 15, count };
+        assert_eq!(calls::next(&machine.image, &at_end), Ok(Next::End { lsn: 4 }));
+    }
+    let full = but(&machine, |machine| machine.cursor = Cursor { count: 256, ..good });
+    refused(&full, Command::Next, 13, 1);
 }
 
 // ---------------------------------------------------------------- 3: numbers handed in
@@ -270,7 +277,7 @@ fn refusal_4_superline() {
 #[test]
 fn refusal_5_not_live() {
     let machine = with_all_stages();
-    for lsn in [0, 6, 65, LSN_LIMIT, u64::MAX] {
+    for lsn in [0, 6, 65, 257, LSN_LIMIT, u64::MAX] {
         refused(&machine, Command::Copy { lsn, offset: u64::MAX, bytes: vec![1] }, 5, 0);
         refused(&machine, Command::Complete { lsn }, 5, 0);
         refused(&machine, Command::Force { lsn, frequency: 7 }, 5, 0);
@@ -346,7 +353,14 @@ fn full_table(capacity: u64) -> Machine {
 #[test]
 fn refusal_9_table_full() {
     refused(&full_table(1_000), Command::Reserve { kind: 1, length: 0 }, 9, 0);
-    refused(&full_table(193), Command::Reserve { kind: 1, length: 0 }, 9, 0); // before 10
+    refused(&full_table(769), Command::Reserve { kind: 1, length: 0 }, 9, 0); // before 10
+                                                                              // 256 live are sound, and with one fewer there is room for one more.
+    let mut machine = full_table(1_000);
+    assert!(machine.state.is_sound());
+    ok(&mut machine, Command::Release { lsn: 1 });
+    let answer = ok(&mut machine, Command::Reserve { kind: 1, length: 0 });
+    assert_eq!(answer.numbers("ok"), Some(&[257, 768][..]));
+    assert_eq!(machine.state.table[1].position, 768);
 }
 
 #[test]
@@ -481,12 +495,12 @@ fn refusal_12_lsn_above_its_range() {
 #[test]
 fn refusal_13_too_many() {
     let machine = full_table(1_000);
-    assert_eq!(calls::walk(&machine.image).unwrap().0.len(), 64);
+    assert_eq!(calls::walk(&machine.image).unwrap().0.len(), 256);
     let good = Header { length: 0, kind: 1, mark: MARK_COMMITTED };
-    walk_refused(&but(&machine, |machine| set_header(machine, 192, 65, good)), 13, 65, None);
+    walk_refused(&but(&machine, |machine| set_header(machine, 768, 257, good)), 13, 257, None);
     // Before 12, but not before the end.
-    walk_refused(&but(&machine, |machine| machine.image[24 + 192] = u64::MAX), 13, 65, None);
-    let unmarked = but(&machine, |machine| machine.image[24 + 192] = u64::MAX >> 16);
+    walk_refused(&but(&machine, |machine| machine.image[24 + 768] = u64::MAX), 13, 257, None);
+    let unmarked = but(&machine, |machine| machine.image[24 + 768] = u64::MAX >> 16);
     assert!(calls::walk(&unmarked.image).is_ok());
 }
 
@@ -516,7 +530,7 @@ fn refusal_15_op_buffer_short() {
     for (call, op_count) in calls.drain(..) {
         exact_op_buffer(&machine, call, op_count);
     }
-    exact_op_buffer(&full_table(193), Command::ReleaseAll, 9);
+    exact_op_buffer(&full_table(769), Command::ReleaseAll, 9);
 }
 
 /// Refused with one word less than needed, done with just enough.

@@ -3,7 +3,8 @@
 use reference::cover::Coverage;
 use reference::gen::script;
 use reference::layout::TABLE_SIZE;
-use reference::replay::replay;
+use reference::replay::{replay, Machine};
+use reference::script::{Command, Parsed};
 
 fn run(bytes: &[u8]) -> String {
     let mut output = Vec::new();
@@ -43,8 +44,11 @@ fn digests() {
 #[test]
 fn states_by_field_and_entry() {
     let output =
-        run_words(&[4, 0, 5, 4, 7, 6, 4, 8, 9, 5, 66, 65_537, 2, 3, 4, 5, 3, 1, 1, 1, 5, 31]);
+        run_words(&[4, 0, 5, 4, 7, 6, 4, 8, 9, 5, 258, 65_537, 2, 3, 4, 5, 3, 1, 1, 1, 5, 31]);
     assert_eq!(output, "state 5 0 0 0 0 0 0 6 [2 1 2 3 4]\n");
+    // 66 and 255 are entries of their own.
+    let output = run_words(&[5, 66, 1, 2, 3, 4, 5, 255, 1, 1, 1, 1, 31]);
+    assert_eq!(output, "state 0 0 0 0 0 0 0 0 [66 1 2 3 4] [255 1 1 1 1]\n");
 }
 
 #[test]
@@ -73,6 +77,35 @@ fn scripts_are_repeatable() {
         assert_eq!(script(seed), script(seed));
     }
     assert_ne!(script(1), script(2));
+}
+
+/// More live records than the old table took, full tables, and live records that go round the end of the table.
+#[test]
+fn scripts_reach_many_live_records() {
+    let (mut many, mut full, mut round) = (0, 0, 0);
+    for seed in 1..=300 {
+        let bytes = script(seed);
+        let mut words =
+            bytes.chunks_exact(8).map(|word| u64::from_le_bytes(word.try_into().unwrap()));
+        let mut machine = Machine::default();
+        let (mut most, mut goes_round) = (0, false);
+        while let Parsed::Command(command) = Command::parse(&mut words) {
+            machine.run(&command);
+            let state = &machine.state;
+            if matches!(command, Command::Reserve { .. } | Command::Release { .. })
+                && state.is_sound()
+            {
+                let live = state.next_lsn - state.head_lsn;
+                most = most.max(live);
+                let table_size = TABLE_SIZE as u64;
+                goes_round |= live > 64 && state.head_lsn % table_size + live > table_size;
+            }
+        }
+        many += usize::from(most > 64);
+        full += usize::from(most == 256);
+        round += usize::from(goes_round);
+    }
+    assert!(many >= 30 && full >= 10 && round >= 10, "{many} {full} {round}");
 }
 
 #[test]

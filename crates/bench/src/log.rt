@@ -36,11 +36,11 @@ fn is_over(head: u64, next: u64, committed: u64, live: u64) -> bool {
     (head <= committed) & (live < next - head)
 }
 
-// Records released from the head on, committed ones only, until `live` are left. A proved loop has to end: 64 turns
+// Records released from the head on, committed ones only, until `live` are left. A proved loop has to end: 256 turns
 // are enough.
 pub fn trim(s: State, image: &mut [u64], ops: &mut [u64], live: u64) -> State {
     let mut t = s;
-    let mut turns: u64 = 64;
+    let mut turns: u64 = 256;
     while 0 < turns {
         if !is_over(t.head_lsn, t.next_lsn, t.committed_lsn, live) {
             return t;

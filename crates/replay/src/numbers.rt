@@ -7,7 +7,8 @@ use drivelog::State;
 use drivelog::TABLE_SIZE;
 use state::fresh_table;
 use state::stage_number;
-ghost use Prim.Native.Nat.{_≤_};
+ghost use Prim.Native.Nat.{_<_};
+ghost use Rattle.state.specs.Table.{tableSize};
 
 // The numbers before those of the entries, and all of them.
 pub const FIELDS: usize = 8;
@@ -27,7 +28,7 @@ fn stage_of(number: u64) -> Stage {
 
 // Entry `i` of the table.
 fn entry_of(numbers: &[u64; NUMBERS], i: usize) -> Entry
-    requires { ⌜ i ≤ 63 ⌝ }
+    requires { ⌜ i < tableSize ⌝ }
 {
     let k = FIELDS + 4 * i;
     let stage = stage_of(numbers[k + 3]);
@@ -69,7 +70,7 @@ pub fn put_entry(
     kind: u64,
     stage: u64,
 )
-    requires { ⌜ i ≤ 63 ⌝ }
+    requires { ⌜ i < tableSize ⌝ }
 {
     let k = FIELDS + 4 * i;
     numbers[k] = pos;
@@ -80,7 +81,7 @@ pub fn put_entry(
 
 // Puts an entry.
 fn save_entry(numbers: &mut [u64; NUMBERS], i: usize, e: Entry)
-    requires { ⌜ i ≤ 63 ⌝ }
+    requires { ⌜ i < tableSize ⌝ }
 {
     let stage = e.stage;
     put_entry(

@@ -6,6 +6,7 @@
 //! release of the head with k released records behind it, 2000 + k one that is refused behind the soundness test.
 
 use reference::calls::Done;
+use reference::layout::TABLE_SIZE;
 use reference::plain::{self, State};
 use std::hint::black_box;
 use std::io::{self, Read};
@@ -93,7 +94,7 @@ fn main() -> io::Result<()> {
         }
         return Ok(());
     }
-    if (1..=1_024).contains(&bytes) && live <= 64 && (40..=8_192).contains(&words) {
+    if (1..=1_024).contains(&bytes) && live <= TABLE_SIZE as u64 && (40..=8_192).contains(&words) {
         if let Some((time, digest)) = run(job, bytes, live, count, words as usize) {
             println!("{time} {digest}");
         }

@@ -73,7 +73,7 @@ IMAGES = {
     "selector": flipped(WORN, 0, 1),
     # A bit of the newest record's payload; the parts before it are not ordered.
     "damaged": flipped(WORN, 24 + 8, 4),
-    "too-many": log(300, 0, 1, [(PART, COMMITTED, "6205")] * 65),
+    "too-many": log(1100, 0, 1, [(PART, COMMITTED, "6205")] * 257),
 }
 
 check = sys.argv[1:] == ["--check"]

@@ -2,14 +2,15 @@
 -- Assumes nothing.
 use borrow.Author.Needs.{needs}
 use Prim.Native.Nat.{_-_, _≤_}
+use Rattle.state.specs.Table.{tableSize}
 use Rattle.replay.proofs.numbers.save_state.Statement.{statement}
 use Rattle.replay.proofs.numbers.save_state.Tie as tie
 
 abbrev Inv-loop : tie.InvT-loop
-Inv-loop numbers₀ s i₀ numbers i = i ≤ 64
+Inv-loop numbers₀ s i₀ numbers i = i ≤ tableSize
 
 abbrev μ-loop : tie.MeasureT-loop
-μ-loop numbers₀ s i₀ numbers i = 64 - i
+μ-loop numbers₀ s i₀ numbers i = tableSize - i
 
 pub save-state-spec : {M : Type 1} → statement M
 save-state-spec =

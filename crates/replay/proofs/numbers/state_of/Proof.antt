@@ -4,14 +4,15 @@ use borrow.Author.Needs.{needs}
 use Prim.Native.Nat.{_-_, _≤_}
 use mathlib.Core.Path.{_≡_}
 use lib.ListN.{length}
+use Rattle.state.specs.Table.{tableSize}
 use Rattle.replay.proofs.numbers.state_of.Statement.{statement}
 use Rattle.replay.proofs.numbers.state_of.Tie as tie
 
 abbrev Inv-loop : tie.InvT-loop
-Inv-loop numbers table₀ i₀ table i = (i ≤ 64) × (length table ≡ 64)
+Inv-loop numbers table₀ i₀ table i = (i ≤ tableSize) × (length table ≡ tableSize)
 
 abbrev μ-loop : tie.MeasureT-loop
-μ-loop numbers table₀ i₀ table i = 64 - i
+μ-loop numbers table₀ i₀ table i = tableSize - i
 
 pub state-of-spec : {M : Type 1} → statement M
 state-of-spec =

@@ -3,14 +3,15 @@
 use borrow.Author.Needs.{needs}
 use Prim.Native.Nat.{_-_, _≤_}
 use Rattle.replay.specs.Text.{Inside}
+use Rattle.state.specs.Table.{tableSize}
 use Rattle.replay.proofs.print.print_state.Statement.{statement}
 use Rattle.replay.proofs.print.print_state.Tie as tie
 
 abbrev Inv-loop : tie.InvT-loop
-Inv-loop out₀ numbers name at₀ i₀ out at i = (i ≤ 64) × Inside at
+Inv-loop out₀ numbers name at₀ i₀ out at i = (i ≤ tableSize) × Inside at
 
 abbrev μ-loop : tie.MeasureT-loop
-μ-loop out₀ numbers name at₀ i₀ out at i = 64 - i
+μ-loop out₀ numbers name at₀ i₀ out at i = tableSize - i
 
 pub print-state-spec : {M : Type 1} → statement M
 print-state-spec =
