@@ -1,10 +1,11 @@
 # demo: the log in a minute, with a power failure. test: the gate. prove: every function and theorem, with no program run.
-# list: the records of a sample module. lib: the reading calls for C, proved, as target/lib/libdrivelog.a (include/drivelog.h).
-# compare, calls, crash: the built programs and the calls for C against the reference for longer, as `make compare SCRIPTS=1000`,
-# `make calls SCRIPTS=1000`, `make why SCRIPTS=1000`, `make crash SECONDS=600`. bench: how long the calls take beside plain Rust, zlib and libpmemlog. speed: how
-# long loglist takes for a full image, beside one in plain Rust. docs/TESTING.md says what the tests show, docs/SPEED.md what the times
-# say.
-.PHONY: demo list lib prove test compare calls why crash speed bench bench-c programs
+# list: the records of a sample module. load: an image made from a sample listing, and listed again. lib: the reading calls for C,
+# proved, as target/lib/libdrivelog.a (include/drivelog.h). compare, calls, why, loads, crash: the built programs and the calls for C
+# against the reference for longer, as `make compare SCRIPTS=1000`, `make calls SCRIPTS=1000`, `make why SCRIPTS=1000`,
+# `make loads SCRIPTS=1000`, `make crash SECONDS=600`. bench: how long the calls take beside plain Rust, zlib and libpmemlog. speed:
+# how long loglist takes for a full image, beside one in plain Rust. docs/TESTING.md says what the tests show, docs/SPEED.md what the
+# times say.
+.PHONY: demo list load lib prove test compare calls why loads crash speed bench bench-c programs
 
 SCRIPTS ?= 1000
 SECONDS ?= 60
@@ -21,6 +22,10 @@ demo:
 list:
 	rt check loglist
 	target/bin/loglist < crates/loglist/stdin
+
+load:
+	rt check logload loglist
+	target/bin/logload < crates/logload/stdin | target/bin/loglist
 
 lib:
 	rt staticlib $(c_crate)
@@ -48,6 +53,11 @@ why:
 	rt check logwhy
 	cd reference && cargo build --release --offline --quiet
 	$(reference) why target/bin/logwhy $(SEED) $(SCRIPTS)
+
+loads:
+	rt check logload loglist
+	cd reference && cargo build --release --offline --quiet
+	$(reference) load target/bin/logload target/bin/loglist $(SEED) $(SCRIPTS)
 
 crash: programs
 	$(reference) crash $(SECONDS) --program target/bin/replay --seed $(SEED)

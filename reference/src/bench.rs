@@ -251,8 +251,7 @@ pub fn bench(programs: &Programs, rounds: usize, out: &mut impl Write) -> Result
         })
         .collect();
 
-    let c_calls =
-        [COUNT_RECORDS, ONE_RECORD, ALL_RECORDS, ALL_BY_LIST].map(|job| full(job, FEW));
+    let c_calls = [COUNT_RECORDS, ONE_RECORD, ALL_RECORDS, ALL_BY_LIST].map(|job| full(job, FEW));
 
     let proved = Program::new(programs.proved);
     let plain = Program::new(programs.plain);

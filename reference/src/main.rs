@@ -8,13 +8,15 @@ use reference::crash::{crash_bench, Program};
 use reference::demo::demo;
 use reference::gen;
 use reference::layout::OLD_TABLE_SIZE;
+use reference::load::compare_load;
 use reference::loglist::{loglist, read_image_bytes};
+use reference::logload::{output, read_text};
 use reference::logwhy::{compare_logwhy, logwhy, read_input};
 use reference::replay::replay;
 use reference::samples::full_image;
 use reference::shortcut::Shortcut;
 use reference::stored_script::stored_script;
-use reference::time::list_times;
+use reference::time::{list_times, load_times};
 use std::fs;
 use std::io::{self, BufWriter, Write};
 use std::path::{Path, PathBuf};
@@ -35,8 +37,12 @@ usage: reference demo                    tell the story that the program demo te
        reference c-calls DRIVER SEED N   compare the calls that a C program makes with ours, on N images
        reference logwhy                  say why the LSN behind the image on standard input is listed or not
        reference why LOGWHY SEED N       run another logwhy on images of N seeds, each with many LSNs
+       reference logload                 write the image that the listing on standard input describes
+       reference load LOGLOAD LOGLIST SEED N
+                                         run two other programs on listings, good and changed, of N seeds
        reference samples LOGLIST         run another loglist on images written word by word
        reference time PROGRAM...         how long each takes to list a full image
+       reference time-load PROGRAM...    how long each takes to load the listing of a full image
        reference same-work PROVED PLAIN  whether two bench programs leave the same
        reference bench PROVED PLAIN C_BENCH [PMEM] [--calls C_CALLS] [--rounds N]
                                          how long the calls take, case by case
@@ -160,6 +166,32 @@ fn run(args: &[&str]) -> io::Result<ExitCode> {
                 ExitCode::FAILURE
             });
         }
+        ["logload"] => stdout.write_all(&output(&read_text(io::stdin().lock())?))?,
+        ["load", logload, loglist, seed, count] => {
+            let (logload, loglist) = (Path::new(logload), Path::new(loglist));
+            let report = compare_load(logload, loglist, parse(seed)?, parse(count)?)?;
+            if let Some((text, found)) = &report.difference {
+                writeln!(
+                    stdout,
+                    "seed {}, text '{text}': {} differs in line {}",
+                    found.seed, found.what, found.line
+                )?;
+                writeln!(stdout, "reference: {}\nprogram:   {}", found.ours, found.theirs)?;
+            }
+            writeln!(
+                stdout,
+                "load: {} texts, {} granted, {} differences",
+                report.texts,
+                report.granted,
+                report.difference.iter().count()
+            )?;
+            stdout.flush()?;
+            return Ok(if report.difference.is_none() {
+                ExitCode::SUCCESS
+            } else {
+                ExitCode::FAILURE
+            });
+        }
         ["samples", loglist] => match compare_samples(Path::new(loglist))? {
             Ok(count) => writeln!(stdout, "samples: {count} images listed as they should be")?,
             Err(difference) => {
@@ -168,9 +200,10 @@ fn run(args: &[&str]) -> io::Result<ExitCode> {
                 return Ok(ExitCode::FAILURE);
             }
         },
-        ["time", programs @ ..] => {
+        [what @ ("time" | "time-load"), programs @ ..] => {
             let paths: Vec<&Path> = programs.iter().map(Path::new).collect();
-            for (program, time) in programs.iter().zip(list_times(&paths, 200)?) {
+            let times = if *what == "time" { list_times } else { load_times };
+            for (program, time) in programs.iter().zip(times(&paths, 200)?) {
                 writeln!(stdout, "{:>8.1} us  {program}", time.as_secs_f64() * 1e6)?;
             }
         }

@@ -1,4 +1,4 @@
-//! The table "When a call declines", refusal 16 of document 02, and the tests that slip 4 has refusal 12 name.
+//! The table "When a call declines", refusals 16 to 18 of document 02, and the tests that slip 4 has refusal 12 name.
 
 /// Why a call declined. Its number and detail are those of the documents.
 #[derive(Clone, Copy, Debug, PartialEq, Eq)]
@@ -38,6 +38,10 @@ pub enum Refusal {
     },
     /// The index is not below the number of listed records.
     NoRecord,
+    /// A line of a listing is not in its form, or missing, or anything is behind the end line.
+    BadLine,
+    /// An LSN in a listing is not the next one.
+    NotNext,
 }
 
 impl Refusal {
@@ -59,6 +63,8 @@ impl Refusal {
             Refusal::OutputShort => 14,
             Refusal::OpBufferShort { .. } => 15,
             Refusal::NoRecord => 16,
+            Refusal::BadLine => 17,
+            Refusal::NotNext => 18,
         }
     }
 

@@ -8,6 +8,7 @@
 mod calls;
 mod crc;
 mod list;
+mod load;
 mod query;
 mod scan;
 mod state;
@@ -15,6 +16,7 @@ mod state;
 pub use calls::{complete, copy, force, format, recover, release, reserve};
 pub use crc::{crc32_of_bytes, crc32_of_words};
 pub use list::list;
+pub use load::load;
 pub use query::{listed, Listed};
 pub use state::{Entry, Stage, State};
 

@@ -1,0 +1,83 @@
+// The program logload: reads what loglist prints from standard input, and writes the bytes of an image of 8,192 words that lists
+// the same, or a refusal. The image is `load` of what it reads, by the contract of `load_text`; that it reads and writes is
+// beyond any contract.
+use libc::STDIN_FILENO;
+use libc::STDOUT_FILENO;
+use listing::refused_line;
+use load::fill::Answer;
+use load::fill::load_text;
+use refusal::Refusal;
+use refusal::number_of;
+ghost use mathlib.Core.Path.{_≡_};
+ghost use Prim.Native.Nat.{_+_, _≤_};
+ghost use lib.ListN.{length};
+
+// Room for the longest input and one byte more: input that fills it is too long, and no more of it is read.
+fn input_room() -> [u8; 262145]
+    ensures { λ r. ⌜ 262145 ≡ length r ⌝ }
+{
+    [0; 262145]
+}
+
+// Room for an image's words.
+fn image_room() -> [u64; 8192]
+    ensures { λ r. ⌜ 8192 ≡ length r ⌝ }
+{
+    [0; 8192]
+}
+
+// Room for an image's bytes.
+fn byte_room() -> [u8; 65536]
+    ensures { λ r. ⌜ 65536 ≡ length r ⌝ }
+{
+    [0; 65536]
+}
+
+// Puts the bytes of a word, least significant first.
+fn put_word(out: &mut [u8], at: usize, w: u64)
+    requires { ⌜ at + 8 ≤ length (now out) ⌝ }
+{
+    let mut rest = w;
+    let mut i: usize = 0;
+    while i < 8 {
+        out[at + i] = (rest % 256) as u8;
+        rest = rest / 256;
+        i += 1;
+    }
+}
+
+// Puts an image's bytes.
+fn put_image(image: &[u64; 8192], out: &mut [u8])
+    requires { ⌜ 65536 ≤ length (now out) ⌝ }
+{
+    let mut j: usize = 0;
+    while j < 8192 {
+        put_word(out, 8 * j, image[j]);
+        j += 1;
+    }
+}
+
+// Writes an image's bytes.
+fn write_image(image: &[u64; 8192]) {
+    let mut bytes = byte_room();
+    put_image(image, &mut bytes);
+    io::write_all(STDOUT_FILENO, &bytes);
+}
+
+// Writes the line of a refusal.
+fn write_refusal(why: Refusal) {
+    let mut line = [0u8; 29];
+    let end = refused_line(&mut line, 0, number_of(why));
+    io::write_all(STDOUT_FILENO, &line[..end]);
+}
+
+fn main() {
+    let mut input = input_room();
+    let n = io::read_full(STDIN_FILENO, &mut input);
+    let mut image = image_room();
+    let answer = load_text(&input[..n], &mut image);
+    match answer {
+        Answer::Done => write_image(&image),
+        Answer::Refused(why) => write_refusal(why),
+    }
+}
