@@ -342,6 +342,9 @@ impl Generator {
         let words = self.rng.between(40, 200);
         let steps = self.rng.between(10, 60);
         self.history(words, steps);
+        for _ in 0..self.rng.below(3) {
+            self.records_of_a_run();
+        }
         for _ in 0..12 {
             self.damage_a_record();
         }
@@ -374,7 +377,14 @@ impl Generator {
             1 => {
                 let mut header = Header::of_word(ring.read(&good, position, 0));
                 match self.rng.below(3) {
-                    0 => header.length = self.rng.pick(&[0, 1, 1_024, 1_025, u32::MAX as u64]),
+                    0 => {
+                        // What just fits, and one word more.
+                        let before = records.iter().take_while(|it| it.position != position);
+                        let used: u64 = before.map(|it| record_size(it.length)).sum();
+                        let most = 8 * (ring.capacity() - used).saturating_sub(1 + HEADER_WORDS);
+                        let lengths = [0, 1, most, most + 8, 1_024, 1_025, u32::MAX as u64];
+                        header.length = self.rng.pick(&lengths);
+                    }
                     1 => header.kind = self.rng.pick(&[0, 1, MAX_KIND]),
                     _ => header.mark = self.rng.pick(&[0, 1, 2, 3, 65_535]),
                 }
@@ -431,10 +441,12 @@ impl Generator {
     /// Epochs in the records of an image that no run of the calls left there, or that a program from before slip 8 left: all 0, some of
     /// the first 0, any mixture, falling, above the superline's. What recovers goes on for a while.
     fn other_epochs(&mut self) {
-        let words = self.rng.between(40, 300);
-        let steps = self.rng.between(10, 80);
-        self.history(words, steps);
+        let words = self.rng.between(80, 300);
+        self.format(words);
         for _ in 0..self.rng.between(4, 10) {
+            for _ in 0..self.rng.between(1, 3) {
+                self.records_of_a_run();
+            }
             let good = self.machine.image.clone();
             let Ok((records, end)) = calls::walk(&good) else {
                 return;
@@ -464,11 +476,30 @@ impl Generator {
                 self.device = Some(Device::new(&good));
                 self.call(Command::Recover);
             }
-            for _ in 0..self.rng.below(12) {
+            for _ in 0..self.rng.below(8) {
                 self.step();
             }
             self.send(Command::State);
         }
+    }
+
+    /// A few records that are durable, and a recovery; the oldest are released if there is no room.
+    fn records_of_a_run(&mut self) {
+        for _ in 0..self.rng.between(1, 3) {
+            let length = self.rng.below(12);
+            let answer = self.make(Command::Reserve { kind: 8, length });
+            match answer.numbers("ok") {
+                Some(&[lsn, _position]) => {
+                    self.make(Command::Complete { lsn });
+                    self.make(Command::Force { lsn, frequency: 1 });
+                }
+                _ => {
+                    let oldest = self.machine.state.head_lsn;
+                    self.make(Command::Release { lsn: oldest });
+                }
+            }
+        }
+        self.call(Command::Recover);
     }
 
     /// So many epochs, in one of the shapes that a walk can meet.
@@ -1078,7 +1109,8 @@ impl Generator {
         let header = Header { length: 0, kind: self.rng.pick(&[0, 5, 5]), mark };
         self.send(Command::Poke { word: ring.word(cursor.position, 1), value: cursor.lsn });
         self.poke_header_with_check(ring, cursor.position, header);
-        let epoch = self.epoch_near(cursor.last_epoch.min(MAX_EPOCH), cursor.superline_epoch.min(MAX_EPOCH));
+        let epoch = self
+            .epoch_near(cursor.last_epoch.min(MAX_EPOCH), cursor.superline_epoch.min(MAX_EPOCH));
         self.poke_epoch(ring, cursor.position, epoch);
         self.walk();
         let state = self.machine.state.clone();

@@ -117,7 +117,8 @@ impl Machine {
                 let text = match result {
                     Ok(opened) => {
                         *cursor = opened;
-                        let Cursor { position, lsn, used, count, last_epoch, superline_epoch } = opened;
+                        let Cursor { position, lsn, used, count, last_epoch, superline_epoch } =
+                            opened;
                         format!("ok {position} {lsn} {used} {count} {last_epoch} {superline_epoch}")
                     }
                     Err(refusal) => refused(refusal),

@@ -243,23 +243,22 @@ fn damage() -> Vec<Sample> {
     let good = Header { length: 9, kind: 5, mark: MARK_COMMITTED };
     let mut samples = Vec::new();
     // 36 words of ring, used from position 0 on; 1,025 bytes fit only a longer one.
-    let mut broken =
-        |name: &str, words: usize, header: Header, lsn: u64, bits: u64, test: &str| {
-            let mut written = Written::new(words, 0, 20, &records);
-            let position = written.positions[1];
-            *written.word(position, 0) = header.word();
-            *written.word(position, 1) = lsn;
-            // The check that is expected of this record and the last epoch, some bits of them changed.
-            let length = header.length.min(2_000);
-            let payload: Vec<u8> = written.ring.payload(&written.image, position, length).collect();
-            let check = record_check(header.length, header.kind, 21, payload.into_iter());
-            *written.word(position, 2) = CheckWord { check, epoch: 2 }.word() ^ bits;
-            samples.push(sample(
-                format!("damaged-{name}"),
-                written.bytes(),
-                written.text(1, &format!("damaged {test}"), 21),
-            ));
-        };
+    let mut broken = |name: &str, words: usize, header: Header, lsn: u64, bits: u64, test: &str| {
+        let mut written = Written::new(words, 0, 20, &records);
+        let position = written.positions[1];
+        *written.word(position, 0) = header.word();
+        *written.word(position, 1) = lsn;
+        // The check that is expected of this record and the last epoch, some bits of them changed.
+        let length = header.length.min(2_000);
+        let payload: Vec<u8> = written.ring.payload(&written.image, position, length).collect();
+        let check = record_check(header.length, header.kind, 21, payload.into_iter());
+        *written.word(position, 2) = CheckWord { check, epoch: 2 }.word() ^ bits;
+        samples.push(sample(
+            format!("damaged-{name}"),
+            written.bytes(),
+            written.text(1, &format!("damaged {test}"), 21),
+        ));
+    };
     let beyond = Header { length: 8 * (36 - 5 - 3), ..good }; // one word too many: no place for the terminator
     broken("mark-alone", 60, Header { mark: 3, ..good }, 21, 0, "mark");
     broken("kind-alone", 60, Header { kind: 0, ..good }, 21, 0, "kind");
@@ -311,19 +310,20 @@ fn damage() -> Vec<Sample> {
 /// Records of these epochs under a superline's, some of them released; so many are fine, and the one behind them is damaged.
 fn epochs() -> Vec<Sample> {
     let mut samples = Vec::new();
-    let mut walked = |name: &str, superline: u64, epochs: &[u64], released: &[usize], good: usize| {
-        let mark = |i| if released.contains(&i) { MARK_RELEASED } else { MARK_COMMITTED };
-        let records: Vec<Record> = epochs
-            .iter()
-            .enumerate()
-            .map(|(i, &epoch)| Record { epoch, ..record(9, mark(i), &[i as u8; 3]) })
-            .collect();
-        let written = Written::in_epoch(superline, 60, 30, 50, &records);
-        let listed = (0..good).filter(|i| !released.contains(i)).count();
-        let last = if good == epochs.len() { "end" } else { "damaged epoch" };
-        let text = written.text(listed, last, 50 + good as u64);
-        samples.push(sample(format!("epochs-{name}"), written.bytes(), text));
-    };
+    let mut walked =
+        |name: &str, superline: u64, epochs: &[u64], released: &[usize], good: usize| {
+            let mark = |i| if released.contains(&i) { MARK_RELEASED } else { MARK_COMMITTED };
+            let records: Vec<Record> = epochs
+                .iter()
+                .enumerate()
+                .map(|(i, &epoch)| Record { epoch, ..record(9, mark(i), &[i as u8; 3]) })
+                .collect();
+            let written = Written::in_epoch(superline, 60, 30, 50, &records);
+            let listed = (0..good).filter(|i| !released.contains(i)).count();
+            let last = if good == epochs.len() { "end" } else { "damaged epoch" };
+            let text = written.text(listed, last, 50 + good as u64);
+            samples.push(sample(format!("epochs-{name}"), written.bytes(), text));
+        };
     walked("all-zero", 3, &[0, 0, 0, 0], &[], 4);
     walked("zero-first", 3, &[0, 0, 2, 3], &[], 4);
     walked("rise", 9, &[1, 4, 5, 8], &[], 4);
