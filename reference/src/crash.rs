@@ -20,6 +20,7 @@ use crate::layout::{
 use crate::ops::{Op, OP_WORDS};
 use crate::rng::Rng;
 use crate::script::{digest, Answer, Command, Outcome};
+use std::collections::BTreeSet;
 use std::io::{self, BufRead, BufReader, BufWriter, Write};
 use std::path::PathBuf;
 use std::process::{Child, ChildStdin, ChildStdout, Command as Process, Stdio};
@@ -45,8 +46,11 @@ pub struct Report {
     pub histories: u64,
     pub crashes: u64,
     pub images: u64,
-    /// The most records that a crash image held.
+    /// The most records that a crash image held, and the most different epochs.
     pub most_records: usize,
+    pub most_epochs: usize,
+    /// Crash images with records from before slip 8 before others.
+    pub with_stored: u64,
     pub failure: Option<Failure>,
 }
 
@@ -239,6 +243,10 @@ struct History<'a> {
     epoch: u64,
     /// Lengths this history uses. A few only, so that old and new records come to lie alike.
     lengths: Vec<u64>,
+    /// Whether records are seldom released and power fails more often, so that records of several runs stand behind one another.
+    keeps: bool,
+    /// Whether the log is still that of a program from before slip 8, up to a crash.
+    begins_old: bool,
     /// Steps the last walk took, likely those the next one takes.
     usual_walk: usize,
 }
@@ -259,6 +267,8 @@ impl<'a> History<'a> {
             promises: Promises::default(),
             epoch: 0,
             lengths: Vec::new(),
+            keeps: false,
+            begins_old: false,
             usual_walk: 1,
         }
     }
@@ -267,13 +277,17 @@ impl<'a> History<'a> {
         if self.rng.chance(1, 16) {
             return self.run_with_many_records();
         }
+        self.keeps = self.rng.chance(1, 4);
         let words = if self.rng.chance(1, 16) {
             self.rng.between(100, 400)
+        } else if self.keeps {
+            self.rng.between(80, 160)
         } else {
             self.rng.between(40, 72)
         };
         let lengths = [0, 0, 1, 3, 8, 9, 12, 16, 24, 30, 32, 40, 64, 96];
-        self.lengths = (0..self.rng.between(1, 4)).map(|_| self.rng.pick(&lengths)).collect();
+        let lengths = if self.keeps { &lengths[..8] } else { &lengths[..] };
+        self.lengths = (0..self.rng.between(1, 4)).map(|_| self.rng.pick(lengths)).collect();
         if words >= 200 {
             self.lengths.push(self.rng.pick(&[200, 500, 1_023, 1_024]));
         }
@@ -394,6 +408,7 @@ impl<'a> History<'a> {
 
     /// A cut inside formatting is promised nothing, so there is none.
     fn format(&mut self) -> Result<(), String> {
+        self.begins_old = self.rng.chance(1, 3);
         self.device = Device::new(&self.subject.image);
         let answer = self.call(&Command::Format)?;
         if answer.is_refused() {
@@ -422,7 +437,8 @@ impl<'a> History<'a> {
             (1, Effort::FULL, Effort::SMALL)
         };
 
-        if self.rng.chance(1, 12 * seldom) {
+        let every = if self.keeps { 9 } else { 12 };
+        if self.rng.chance(1, every * seldom) {
             self.carry_out(&answer.ops[..some]);
             self.promises.feed(&call, &answer, some, self.epoch);
             return self.crash(full).map_err(|what| describe(&call, some, all, &what));
@@ -446,7 +462,8 @@ impl<'a> History<'a> {
         loop {
             let mut images = self.probe(&self.device.clone(), &self.promises.clone(), effort)?;
             let mut image = images.swap_remove(self.rng.below(images.len() as u64) as usize);
-            if self.rng.chance(1, 8) {
+            if self.begins_old {
+                self.begins_old = self.rng.chance(1, 2);
                 self.forget_epochs(&mut image)?;
             }
             self.device = Device::new(&image);
@@ -524,6 +541,9 @@ impl<'a> History<'a> {
         take_bytes(&mut walked, fetched)?;
         promises.check(&walked)?;
         self.report.most_records = self.report.most_records.max(walked.len());
+        let epochs: BTreeSet<u64> = walked.iter().map(|record| record.epoch).collect();
+        self.report.most_epochs = self.report.most_epochs.max(epochs.len());
+        self.report.with_stored += u64::from(epochs.len() > 1 && epochs.contains(&0));
         if short_first {
             expect_short(&recovered[0])?;
         }
@@ -590,21 +610,29 @@ impl<'a> History<'a> {
         let open = view.in_stage(OPEN);
         let committed = view.in_stage(COMMITTED);
         let forceable = view.forceable();
+        let keeps = self.keeps;
         let rng = &mut self.rng;
         match rng.below(20) {
             0..=3 if !open.is_empty() => {
                 let lsn = rng.pick(&open);
                 self.choose_copy(lsn, view)
             }
+            4..=8 if keeps && !open.is_empty() => Command::Complete { lsn: open[0] },
             4..=8 if !open.is_empty() => Command::Complete { lsn: rng.pick(&open) },
             9..=11 if !forceable.is_empty() => {
                 let lsn = rng.pick(&forceable);
                 let frequency = if rng.chance(2, 3) { 1 } else { rng.between(1, 9) };
                 Command::Force { lsn, frequency }
             }
-            12..=14 if !committed.is_empty() => Command::Release { lsn: rng.pick(&committed) },
-            15 if rng.chance(1, 4) => Command::ReleaseAll,
+            12..=15 if keeps && !forceable.is_empty() => {
+                Command::Force { lsn: forceable[forceable.len() - 1], frequency: 1 }
+            }
+            12..=14 if !committed.is_empty() && (!keeps || rng.chance(1, 9)) => {
+                Command::Release { lsn: rng.pick(&committed) }
+            }
+            15 if rng.chance(1, if keeps { 40 } else { 4 }) => Command::ReleaseAll,
             17 if rng.chance(1, 8) => Command::Recover, // without a crash
+            18..=19 if keeps && !open.is_empty() => Command::Complete { lsn: open[0] },
             16 if rng.chance(1, 3) => {
                 // Mostly refused.
                 let lsn =
@@ -621,7 +649,7 @@ impl<'a> History<'a> {
                 // Now and then even where there is no room.
                 if record_size(length) < view.free_words() || rng.chance(1, 6) {
                     Command::Reserve { kind: rng.between(1, MAX_KIND), length }
-                } else if !committed.is_empty() {
+                } else if !committed.is_empty() && !(keeps && (open.len() + forceable.len() > 0)) {
                     // The oldest, to make room.
                     Command::Release { lsn: committed[0] }
                 } else if !open.is_empty() {

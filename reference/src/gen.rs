@@ -515,7 +515,10 @@ impl Generator {
             4 => epochs.reverse(),
             5 => epochs.iter_mut().filter(|_| rng.chance(1, 2)).for_each(|epoch| *epoch = 0),
             6 => epochs.iter_mut().skip(which).take(1).for_each(|epoch| *epoch = 0),
-            7 => epochs.iter_mut().skip(which).for_each(|epoch| *epoch = superline + 1),
+            7 => {
+                let above = (superline + 1).min(MAX_EPOCH);
+                epochs.iter_mut().skip(which).for_each(|epoch| *epoch = above);
+            }
             _ => {}
         }
         epochs
@@ -576,10 +579,11 @@ impl Generator {
                     cursor.used = self.rng.below(capacity);
                     cursor.count = self.rng.below(TABLE_SIZE as u64 + 1);
                 }
-                // The next record's epoch at, below and above each; and any numbers.
+                // The last epoch at, below and above the superline's; either any number.
                 5 => {
                     let epoch = cursor.superline_epoch;
-                    let edges = [0, 1, epoch - 1, epoch, epoch + 1, MAX_EPOCH, 1 << 32, u64::MAX];
+                    let (below, above) = (epoch.wrapping_sub(1), epoch.wrapping_add(1));
+                    let edges = [0, 1, below, epoch, above, MAX_EPOCH, MAX_EPOCH + 1, u64::MAX];
                     cursor.last_epoch = self.rng.pick(&edges);
                 }
                 6 => cursor.superline_epoch = self.rng.pick(&[0, 1, 2, 1 << 32, u64::MAX]),
