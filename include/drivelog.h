@@ -215,7 +215,7 @@ enum drivelog_words {
     DRIVELOG_REPLY_WORDS = 4,
     DRIVELOG_CURSOR_WORDS = 6,
     DRIVELOG_RECORD_WORDS = 6,
-    DRIVELOG_MAX_OPS = 515,                  /* ops that one call puts at most: a force of 256 records, in two flushes, that go round */
+    DRIVELOG_MAX_OPS = 514,                   /* ops that one call puts at most: a force of 256 records that goes round */
     DRIVELOG_OPS_WORDS = 3 * DRIVELOG_MAX_OPS /* words of an op buffer that is always enough */
 };
 
