@@ -1,5 +1,5 @@
 # demo: the log in a minute, with a power failure. test: the gate. prove: every function and theorem, with no program run.
-# list: the records of a sample module. load: an image made from a sample listing, and listed again. lib: the reading calls for C,
+# list: the records of a sample module. load: an image made from a sample listing, and listed again. lib: the calls for C,
 # proved, as target/lib/libdrivelog.a (include/drivelog.h). compare, calls, why, loads, crash: the built programs and the calls for C
 # against the reference for longer, as `make compare SCRIPTS=1000`, `make calls SCRIPTS=1000`, `make why SCRIPTS=1000`,
 # `make loads SCRIPTS=1000`, `make crash SECONDS=600`. bench: how long the calls take beside plain Rust, zlib and libpmemlog. speed:
@@ -11,8 +11,8 @@ SCRIPTS ?= 1000
 SECONDS ?= 60
 SEED ?= 1
 reference = reference/target/release/reference
-# The crate whose functions are the calls for C.
-c_crate = query
+# The crates whose functions are the calls for C: those that read an image's bytes, and those of the log with its state in lent words.
+c_crates = query ccalls
 
 # Says crate by crate how far the proofs are; what the check says is shown only if it fails.
 demo:
@@ -27,10 +27,12 @@ load:
 	rt check logload loglist
 	target/bin/logload < crates/logload/stdin | target/bin/loglist
 
+# One object of each crate; what a crate does not export is local to its object.
 lib:
-	rt staticlib $(c_crate)
-	mkdir -p target/lib
-	cp target/staticlib/lib$(c_crate).a target/lib/libdrivelog.a
+	for crate in $(c_crates); do rt staticlib $$crate || exit 1; done
+	rm -rf target/lib && mkdir -p target/lib
+	cd target/lib && for crate in $(c_crates); do ar x ../staticlib/lib$$crate.a || exit 1; done
+	cd target/lib && ar rcs libdrivelog.a $(c_crates:=.o)
 
 prove:
 	rt prove
