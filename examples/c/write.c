@@ -28,7 +28,7 @@ int main(int count, char **argument)
     if (durable)
         printf("record %d is durable\n", (int)lsn);
     else
-        printf("refused %d\n", (int)reply[0]);
+        printf("not durable, refusal %d\n", (int)reply[0]);
     driver_close(module);
     return !durable;
 }
