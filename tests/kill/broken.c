@@ -2,7 +2,7 @@
  *
  *     no-flush    flushes are left out
  *     short       a flush of the ring leaves its last word out: that of a force, the word behind the last record
- *     unordered   a call's stores first, then its flushes
+ *     mark-first  a force stores its marks before it flushes the records
  *     last        a call's last op is left out
  *     late        a call's ops are carried out with the next call
  *
@@ -32,8 +32,12 @@ int driver_carry(struct driver_module *module, const uint64_t *ops, size_t count
         return carry_in_turn(module, ops, count);
     if (strcmp(way, "no-flush") == 0)
         return carry_those(module, ops, count, STORE);
-    if (strcmp(way, "unordered") == 0)
+    if (strcmp(way, "mark-first") == 0) {
+        /* Only a force's ops begin with a flush. */
+        if (count == 0 || ops[0] != FLUSH)
+            return carry_in_turn(module, ops, count);
         return carry_those(module, ops, count, STORE) | carry_those(module, ops, count, FLUSH);
+    }
     if (strcmp(way, "last") == 0)
         return carry_in_turn(module, ops, count > 0 ? count - 1 : 0);
     if (strcmp(way, "late") == 0) {
