@@ -23,6 +23,10 @@
 #include <stddef.h>
 #include <stdint.h>
 
+#ifdef __cplusplus
+extern "C" {
+#endif
+
 struct driver_module {
     const uint64_t *words; /* the module's words, to be read; only driver_carry alters them */
     size_t count;          /* how many */
@@ -56,5 +60,9 @@ void driver_close(struct driver_module *module);
 /*
      Gives the module back. It flushes nothing: what was stored and not flushed may still be lost.
 */
+
+#ifdef __cplusplus
+}
+#endif
 
 #endif
