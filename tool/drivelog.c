@@ -52,6 +52,8 @@ enum {
     OPS_WORDS = 26000, /* enough for every call */
     STATE_ROOM = 1024, /* for drivelog_state_words() */
     SUPERLINE = 24,    /* words before the ring */
+    EPOCH_0 = 12,      /* the epoch's word in copy 0, which word 0 selects by 0, */
+    EPOCH_1 = 20,      /* and in copy 1 */
     RING_DRAWN = 64    /* characters of the ring's line */
 };
 
@@ -302,7 +304,7 @@ static int info(void)
     int64_t found;
     open_to_read(cursor);
     uint64_t ring = words - SUPERLINE, cells = ring < RING_DRAWN ? ring : RING_DRAWN;
-    uint64_t head = cursor[CURSOR_POS], head_lsn = cursor[CURSOR_LSN], epoch = cursor[CURSOR_EPOCH];
+    uint64_t head = cursor[CURSOR_POS], head_lsn = cursor[CURSOR_LSN], epoch = image[image[0] == 0 ? EPOCH_0 : EPOCH_1];
     memset(line, '.', cells);
     line[cells] = '\0';
     while ((found = next(cursor, record)) == 1) {
