@@ -49,30 +49,24 @@ static const char help[] =
 
 enum {
     MAX_WORDS = DRIVELOG_MAX_IMAGE / 8,
-    OPS_WORDS = 26000, /* enough for every call */
-    STATE_ROOM = 1024, /* for drivelog_state_words() */
     SUPERLINE = 24,    /* words before the ring */
     EPOCH_0 = 12,      /* the epoch's word in copy 0, which word 0 selects by 0, */
     EPOCH_1 = 20,      /* and in copy 1 */
     RING_DRAWN = 64    /* characters of the ring's line */
 };
 
-/* Words of a state, of a reply and of a record that are read here. */
-enum { STATE_HEAD_LSN = 2, STATE_NEXT_LSN = 4, STATE_EPOCH = 7 };
-enum { REPLY_NUMBER, REPLY_DETAIL, REPLY_OPS, REPLY_SECOND, REPLY_WORDS };
-enum { CURSOR_POS, CURSOR_LSN, CURSOR_USED, CURSOR_COUNT, CURSOR_LAST_EPOCH, CURSOR_EPOCH, CURSOR_WORDS };
-enum { RECORD_POS, RECORD_LSN, RECORD_KIND, RECORD_LENGTH, RECORD_MARK, RECORD_EPOCH, RECORD_WORDS };
-enum { MARK_RELEASED = 2, DAMAGED = 12, TOO_MANY = 13 };
+enum { CURSOR_POS, CURSOR_LSN, CURSOR_USED };
+enum { MARK_RELEASED = 2 };
 
 static const char *path;
 static struct driver_module *module;
 /* One word more than an image can have, so that a file that is too long is refused as one. */
-static uint64_t image[MAX_WORDS + 1], state[STATE_ROOM], ops[OPS_WORDS], reply[REPLY_WORDS];
+static uint64_t image[MAX_WORDS + 1], state[DRIVELOG_STATE_WORDS], ops[DRIVELOG_OPS_WORDS], reply[DRIVELOG_REPLY_WORDS];
 static size_t words;
 
 /* What a writing call is lent, and the reply's two arguments. */
-#define LENT state, (size_t)drivelog_state_words(), image, words, ops, OPS_WORDS
-#define REPLY reply, REPLY_WORDS
+#define LENT state, DRIVELOG_STATE_WORDS, image, words, ops, DRIVELOG_OPS_WORDS
+#define REPLY reply, DRIVELOG_REPLY_WORDS
 
 /* ---------------------------------------------------------------- what goes wrong */
 
@@ -123,25 +117,25 @@ static const char *test_in_words(uint64_t test)
 static const char *refusal_in_words(void)
 {
     static char text[200];
-    uint64_t detail = reply[REPLY_DETAIL];
-    switch (reply[REPLY_NUMBER]) {
-    case 1: return "not the size of an image, which has 40 to 8192 whole words of 8 bytes";
-    case 2: return "the state is not sound";
-    case 3: return "a kind that is not 1 to 65535, a payload of more than 1024 bytes, or a frequency of 0";
-    case 4: return "no log begins here: the selector or the superline's copy that it names is wrong";
-    case 5: return "no live record has this LSN";
-    case 6: return "the record is released already";
-    case 7: return "more bytes than the record has";
-    case 8: return "no LSN or no epoch is left";
-    case 9: return "the log holds 256 records; release some";
-    case 10: return "no room for this record; release some";
-    case 11: snprintf(text, sizeof text, "record %" PRIu64 " is not complete or not committed", detail); return text;
-    case 12:
-        snprintf(text, sizeof text, "record %" PRIu64 " is damaged: %s", detail, test_in_words(reply[REPLY_SECOND]));
+    uint64_t detail = reply[DRIVELOG_REPLY_DETAIL];
+    switch (reply[DRIVELOG_REPLY_NUMBER]) {
+    case DRIVELOG_IMAGE_SIZE: return "not the size of an image, which has 40 to 8192 whole words of 8 bytes";
+    case DRIVELOG_UNSOUND: return "the state is not sound";
+    case DRIVELOG_ARGUMENT: return "a kind that is not 1 to 65535, a payload of more than 1024 bytes, or a frequency of 0";
+    case DRIVELOG_SUPERLINE: return "no log begins here: the selector or the superline's copy that it names is wrong";
+    case DRIVELOG_NOT_LIVE: return "no live record has this LSN";
+    case DRIVELOG_WRONG_STAGE: return "the record is released already";
+    case DRIVELOG_BEYOND_LENGTH: return "more bytes than the record has";
+    case DRIVELOG_NUMBERS_SPENT: return "no LSN or no epoch is left";
+    case DRIVELOG_TABLE_FULL: return "the log holds 256 records; release some";
+    case DRIVELOG_NO_ROOM: return "no room for this record; release some";
+    case DRIVELOG_UNFINISHED: snprintf(text, sizeof text, "record %" PRIu64 " is not complete or not committed", detail); return text;
+    case DRIVELOG_DAMAGED:
+        snprintf(text, sizeof text, "record %" PRIu64 " is damaged: %s", detail, test_in_words(reply[DRIVELOG_REPLY_SECOND]));
         return text;
-    case 13: snprintf(text, sizeof text, "too many records: the log holds 256, and LSN %" PRIu64 " is one more", detail); return text;
-    case 14: return "the payload is longer than its buffer";
-    case 15: snprintf(text, sizeof text, "the op buffer is too short: %" PRIu64 " words are needed", detail); return text;
+    case DRIVELOG_TOO_MANY: snprintf(text, sizeof text, "too many records: the log holds 256, and LSN %" PRIu64 " is one more", detail); return text;
+    case DRIVELOG_OUTPUT_SHORT: return "the payload is longer than its buffer";
+    case DRIVELOG_OPS_SHORT: snprintf(text, sizeof text, "the op buffer is too short: %" PRIu64 " words are needed", detail); return text;
     default: return "no such refusal is known here";
     }
 }
@@ -149,7 +143,7 @@ static const char *refusal_in_words(void)
 static void say_refusal(void)
 {
     fflush(stdout);
-    fprintf(stderr, "drivelog: %s: refused %" PRIu64 ": %s\n", path, reply[REPLY_NUMBER], refusal_in_words());
+    fprintf(stderr, "drivelog: %s: refused %" PRIu64 ": %s\n", path, reply[DRIVELOG_REPLY_NUMBER], refusal_in_words());
 }
 
 /* What a call answered; a refusal ends the program. */
@@ -165,7 +159,7 @@ static uint64_t granted(int64_t answer)
 static uint64_t carried(int64_t answer)
 {
     uint64_t value = granted(answer);
-    if (driver_carry(module, ops, reply[REPLY_OPS]) != 0) {
+    if (driver_carry(module, ops, reply[DRIVELOG_REPLY_OPS]) != 0) {
         fprintf(stderr, "drivelog: %s: the module failed: %s; what it holds is for the next recovery to say\n", path, strerror(errno));
         exit(1);
     }
@@ -220,43 +214,46 @@ static void read_image(void)
 static void open_to_read(uint64_t *cursor)
 {
     read_image();
-    if (drivelog_open(image, words, cursor, CURSOR_WORDS, REPLY) >= 0)
+    if (drivelog_open(image, words, cursor, DRIVELOG_CURSOR_WORDS, REPLY) >= 0)
         return;
-    printf("refused %" PRIu64 "\n", reply[REPLY_NUMBER]);
+    printf("refused %" PRIu64 "\n", reply[DRIVELOG_REPLY_NUMBER]);
     say_refusal();
     exit(1);
 }
 
+/* That of the superline's copy in use, once it has been opened. */
+static uint64_t epoch(void) { return image[image[0] == 0 ? EPOCH_0 : EPOCH_1]; }
+
 static int64_t next(uint64_t *cursor, uint64_t *record)
 {
-    return drivelog_next(image, words, cursor, CURSOR_WORDS, record, RECORD_WORDS, REPLY);
+    return drivelog_next(image, words, cursor, DRIVELOG_CURSOR_WORDS, record, DRIVELOG_RECORD_WORDS, REPLY);
 }
 
 static int list(void)
 {
-    uint64_t cursor[CURSOR_WORDS], record[RECORD_WORDS];
+    uint64_t cursor[DRIVELOG_CURSOR_WORDS], record[DRIVELOG_RECORD_WORDS];
     uint8_t payload[DRIVELOG_MAX_PAYLOAD];
     int64_t found;
     open_to_read(cursor);
     puts("lsn kind length data");
     while ((found = next(cursor, record)) == 1) {
-        if (record[RECORD_MARK] == MARK_RELEASED)
+        if (record[DRIVELOG_RECORD_MARK] == MARK_RELEASED)
             continue;
-        uint64_t length = record[RECORD_LENGTH];
-        granted(drivelog_fetch(image, words, record[RECORD_POS], length, payload, sizeof payload, REPLY));
-        printf("%" PRIu64 " %" PRIu64 " %" PRIu64 " ", record[RECORD_LSN], record[RECORD_KIND], length);
+        uint64_t length = record[DRIVELOG_RECORD_LENGTH];
+        granted(drivelog_fetch(image, words, record[DRIVELOG_RECORD_POS], length, payload, sizeof payload, REPLY));
+        printf("%" PRIu64 " %" PRIu64 " %" PRIu64 " ", record[DRIVELOG_RECORD_LSN], record[DRIVELOG_RECORD_KIND], length);
         for (uint64_t i = 0; i < length; i++)
             printf("%02x", payload[i]);
         puts(length == 0 ? "-" : "");
     }
     if (found == 0) {
-        printf("end %" PRIu64 "\n", reply[REPLY_SECOND]);
+        printf("end %" PRIu64 "\n", reply[DRIVELOG_REPLY_SECOND]);
         return 0;
     }
-    if (found == -DAMAGED)
-        printf("damaged %" PRIu64 " %s\n", reply[REPLY_DETAIL], test_word(reply[REPLY_SECOND]));
-    else if (found == -TOO_MANY)
-        printf("toomany %" PRIu64 "\n", reply[REPLY_DETAIL]);
+    if (found == -DRIVELOG_DAMAGED)
+        printf("damaged %" PRIu64 " %s\n", reply[DRIVELOG_REPLY_DETAIL], test_word(reply[DRIVELOG_REPLY_SECOND]));
+    else if (found == -DRIVELOG_TOO_MANY)
+        printf("toomany %" PRIu64 "\n", reply[DRIVELOG_REPLY_DETAIL]);
     say_refusal();
     return 1;
 }
@@ -264,7 +261,7 @@ static int list(void)
 /* Damage is an answer here, and no error. */
 static int why(uint64_t lsn)
 {
-    uint64_t cursor[CURSOR_WORDS], record[RECORD_WORDS];
+    uint64_t cursor[DRIVELOG_CURSOR_WORDS], record[DRIVELOG_RECORD_WORDS];
     int64_t found;
     open_to_read(cursor);
     if (lsn < cursor[CURSOR_LSN]) {
@@ -272,15 +269,15 @@ static int why(uint64_t lsn)
         return 0;
     }
     while ((found = next(cursor, record)) == 1)
-        if (record[RECORD_LSN] == lsn) {
-            puts(record[RECORD_MARK] == MARK_RELEASED ? "released" : "listed");
+        if (record[DRIVELOG_RECORD_LSN] == lsn) {
+            puts(record[DRIVELOG_RECORD_MARK] == MARK_RELEASED ? "released" : "listed");
             return 0;
         }
     if (found == 0)
         puts("end");
-    else if (found == -DAMAGED)
-        printf("damaged %" PRIu64 " %s\n", reply[REPLY_DETAIL], test_word(reply[REPLY_SECOND]));
-    else if (found == -TOO_MANY)
+    else if (found == -DRIVELOG_DAMAGED)
+        printf("damaged %" PRIu64 " %s\n", reply[DRIVELOG_REPLY_DETAIL], test_word(reply[DRIVELOG_REPLY_SECOND]));
+    else if (found == -DRIVELOG_TOO_MANY)
         puts("toomany");
     else
         granted(found);
@@ -299,18 +296,18 @@ static void draw(char *line, uint64_t cells, uint64_t ring, uint64_t pos, uint64
 
 static int info(void)
 {
-    uint64_t cursor[CURSOR_WORDS], record[RECORD_WORDS], listed = 0, released = 0;
+    uint64_t cursor[DRIVELOG_CURSOR_WORDS], record[DRIVELOG_RECORD_WORDS], listed = 0, released = 0;
     char line[RING_DRAWN + 1];
     int64_t found;
     open_to_read(cursor);
     uint64_t ring = words - SUPERLINE, cells = ring < RING_DRAWN ? ring : RING_DRAWN;
-    uint64_t head = cursor[CURSOR_POS], head_lsn = cursor[CURSOR_LSN], epoch = image[image[0] == 0 ? EPOCH_0 : EPOCH_1];
+    uint64_t head = cursor[CURSOR_POS], head_lsn = cursor[CURSOR_LSN];
     memset(line, '.', cells);
     line[cells] = '\0';
     while ((found = next(cursor, record)) == 1) {
-        int gone = record[RECORD_MARK] == MARK_RELEASED;
+        int gone = record[DRIVELOG_RECORD_MARK] == MARK_RELEASED;
         *(gone ? &released : &listed) += 1;
-        draw(line, cells, ring, record[RECORD_POS], 3 + (record[RECORD_LENGTH] + 7) / 8, gone ? 'r' : '#');
+        draw(line, cells, ring, record[DRIVELOG_RECORD_POS], 3 + (record[DRIVELOG_RECORD_LENGTH] + 7) / 8, gone ? 'r' : '#');
     }
     draw(line, cells, ring, cursor[CURSOR_POS], 1, 'E');
     if (listed + released > 0)
@@ -318,7 +315,7 @@ static int info(void)
 
     uint64_t room = ring - 1 - cursor[CURSOR_USED];
     printf("words    %zu, of which the ring has %" PRIu64 "\n", words, ring);
-    printf("epoch    %" PRIu64 "\n", epoch);
+    printf("epoch    %" PRIu64 "\n", epoch());
     printf("head     LSN %" PRIu64 " at position %" PRIu64 "\n", head_lsn, head);
     printf("end      LSN %" PRIu64 " at position %" PRIu64 "\n", cursor[CURSOR_LSN], cursor[CURSOR_POS]);
     printf("records  %" PRIu64 " listed, %" PRIu64 " released; a log holds %d\n", listed, released, DRIVELOG_MAX_RECORDS);
@@ -339,8 +336,8 @@ static void power_up(void)
 {
     module = driver_open(path);
     if (module == NULL && errno == EINVAL) {
-        reply[REPLY_NUMBER] = 1;
-        granted(-1);
+        reply[DRIVELOG_REPLY_NUMBER] = DRIVELOG_IMAGE_SIZE;
+        granted(-DRIVELOG_IMAGE_SIZE);
     }
     if (module == NULL)
         fail_by_system();
@@ -362,13 +359,23 @@ static int format(uint64_t asked)
     return 0;
 }
 
-static uint64_t live_records(void) { return state[STATE_NEXT_LSN] - state[STATE_HEAD_LSN]; }
+/* Scans the working image: the number of live records, and the LSN that the next one gets. */
+static uint64_t live_records(uint64_t *next_lsn)
+{
+    uint64_t cursor[DRIVELOG_CURSOR_WORDS], record[DRIVELOG_RECORD_WORDS], count = 0;
+    granted(drivelog_open(image, words, cursor, DRIVELOG_CURSOR_WORDS, REPLY));
+    while (granted(next(cursor, record)) == 1)
+        count++;
+    *next_lsn = reply[DRIVELOG_REPLY_SECOND];
+    return count;
+}
 
 static int recover(void)
 {
+    uint64_t next_lsn;
     power_up();
-    printf("recovered, %" PRIu64 " live records, next LSN %" PRIu64 ", epoch %" PRIu64 "\n", live_records(), state[STATE_NEXT_LSN],
-           state[STATE_EPOCH]);
+    uint64_t live = live_records(&next_lsn);
+    printf("recovered, %" PRIu64 " live records, next LSN %" PRIu64 ", epoch %" PRIu64 "\n", live, next_lsn, epoch());
     return 0;
 }
 
@@ -417,7 +424,7 @@ static int write_lines(uint64_t frequency)
     uint64_t count = 0, last = 0;
     int deferred = 0;
     const char *wrong = NULL;
-    uint64_t refused[REPLY_WORDS] = {0};
+    uint64_t refused[DRIVELOG_REPLY_WORDS] = {0};
 
     power_up();
     while (wrong == NULL && (got = getline(&line, &room, stdin)) >= 0) {
@@ -446,7 +453,7 @@ static int write_lines(uint64_t frequency)
     if (wrong == NULL)
         return 0;
     fprintf(stderr, "drivelog: line %" PRIu64 " of standard input %s\n", count, wrong);
-    if (refused[REPLY_NUMBER] != 0) {
+    if (refused[DRIVELOG_REPLY_NUMBER] != 0) {
         memcpy(reply, refused, sizeof refused);
         say_refusal();
     }
@@ -463,10 +470,11 @@ static int release(uint64_t lsn)
 
 static int release_all(void)
 {
+    uint64_t next_lsn;
     power_up();
-    uint64_t live = live_records();
+    uint64_t live = live_records(&next_lsn);
     carried(drivelog_release_all(LENT, REPLY));
-    printf("all released, %" PRIu64 " live records before, next LSN %" PRIu64 "\n", live, state[STATE_NEXT_LSN]);
+    printf("all released, %" PRIu64 " live records before, next LSN %" PRIu64 "\n", live, next_lsn);
     return 0;
 }
 
@@ -507,10 +515,6 @@ int main(int count, char **argument)
     }
     if (count < 3)
         usage("a command and a file are needed");
-    if (drivelog_state_words() > STATE_ROOM) {
-        fputs("drivelog: the library's state is larger than this program has room for\n", stderr);
-        return 1;
-    }
     int status = command(count, argument);
     if (module != NULL)
         driver_close(module);

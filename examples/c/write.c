@@ -8,9 +8,9 @@
 #include <stdio.h>
 #include <string.h>
 
-static uint64_t state[520], image[8192], ops[26000], reply[4];
-#define LENT state, 520, image, module->count, ops, 26000
-#define DONE(call) ((call) >= 0 && driver_carry(module, ops, reply[2]) == 0)
+static uint64_t state[DRIVELOG_STATE_WORDS], image[8192], ops[DRIVELOG_OPS_WORDS], reply[4];
+#define LENT state, DRIVELOG_STATE_WORDS, image, module->count, ops, DRIVELOG_OPS_WORDS
+#define DONE(call) ((call) >= 0 && driver_carry(module, ops, reply[DRIVELOG_REPLY_OPS]) == 0)
 
 int main(int count, char **argument)
 {
@@ -28,7 +28,7 @@ int main(int count, char **argument)
     if (durable)
         printf("record %d is durable\n", (int)lsn);
     else
-        printf("not durable, refusal %d\n", (int)reply[0]);
+        printf("not durable, refusal %d\n", (int)reply[DRIVELOG_REPLY_NUMBER]);
     driver_close(module);
     return !durable;
 }

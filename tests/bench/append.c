@@ -16,40 +16,50 @@
 #include <unistd.h>
 #include <zlib.h>
 
-enum { OPS_WORDS = 26000, STATE_WORDS = 520, HEAD_LSN = 2, NEXT_LSN = 4, COMMITTED_LSN = 5 };
-
-static uint64_t image[DRIVELOG_MAX_IMAGE / 8], state[STATE_WORDS], ops[OPS_WORDS], reply[4];
+static uint64_t image[DRIVELOG_MAX_IMAGE / 8], state[DRIVELOG_STATE_WORDS], ops[DRIVELOG_OPS_WORDS], reply[DRIVELOG_REPLY_WORDS];
+/* LSNs: of the oldest live record, of the next one, of the newest durable one. */
+static uint64_t head = 1, next = 1, committed = 0;
 static size_t words;
 static struct driver_module *module;
 
-#define LENT state, STATE_WORDS, image, words, ops, OPS_WORDS
+#define LENT state, DRIVELOG_STATE_WORDS, image, words, ops, DRIVELOG_OPS_WORDS
+#define REPLY reply, DRIVELOG_REPLY_WORDS
 
 /* What a call answered; with a module its ops are carried out. */
 static int64_t made(int64_t answer)
 {
-    if (module != NULL && answer >= 0 && driver_carry(module, ops, reply[2]) != 0) {
+    if (module != NULL && answer >= 0 && driver_carry(module, ops, reply[DRIVELOG_REPLY_OPS]) != 0) {
         perror("append: driver_carry");
         exit(1);
     }
     return answer;
 }
 
+static void force(uint64_t lsn, uint64_t frequency)
+{
+    if (made(drivelog_force(LENT, lsn, frequency, REPLY)) == 1)
+        committed = lsn;
+}
+
 /* A refused call leaves the state as it is, and the next one goes on from there. */
 static void append(const uint8_t *payload, size_t bytes)
 {
-    int64_t lsn = made(drivelog_reserve(LENT, 1, bytes, reply, 4));
+    int64_t lsn = made(drivelog_reserve(LENT, 1, bytes, REPLY));
     if (lsn < 0)
         return;
-    made(drivelog_copy(LENT, (uint64_t)lsn, 0, payload, bytes, reply, 4));
-    made(drivelog_complete(LENT, (uint64_t)lsn, reply, 4));
-    made(drivelog_force(LENT, (uint64_t)lsn, 8, reply, 4));
+    next = (uint64_t)lsn + 1;
+    made(drivelog_copy(LENT, (uint64_t)lsn, 0, payload, bytes, REPLY));
+    made(drivelog_complete(LENT, (uint64_t)lsn, REPLY));
+    force((uint64_t)lsn, 8);
 }
 
 static void trim(uint64_t live)
 {
-    while (state[NEXT_LSN] - state[HEAD_LSN] > live && state[HEAD_LSN] <= state[COMMITTED_LSN])
-        if (made(drivelog_release(LENT, state[HEAD_LSN], reply, 4)) < 0)
+    while (next - head > live && head <= committed) {
+        if (made(drivelog_release(LENT, head, REPLY)) < 0)
             return;
+        head++;
+    }
 }
 
 int main(int arguments, char **argument)
@@ -64,7 +74,7 @@ int main(int arguments, char **argument)
         return 0;
     uint64_t job = input[0], bytes = input[1], live = input[2], count = input[3];
     words = (size_t)input[4];
-    if (job != 1 || bytes < 1 || bytes > 1024 || live > 256 || words < 40 || words > 8192 || drivelog_state_words() != STATE_WORDS)
+    if (job != 1 || bytes < 1 || bytes > 1024 || live > 256 || words < 40 || words > 8192)
         return 0;
 
     uint8_t payload[1024];
@@ -80,10 +90,10 @@ int main(int arguments, char **argument)
         }
         unlink(path);
     }
-    made(drivelog_format(LENT, reply, 4));
+    made(drivelog_format(LENT, REPLY));
     for (uint64_t i = 0; i < live; i++)
         append(payload, bytes);
-    made(drivelog_force(LENT, state[NEXT_LSN] - 1, 1, reply, 4));
+    force(next - 1, 1);
 
     clock_t start = clock();
     for (uint64_t i = 0; i < count; i++) {

@@ -12,9 +12,11 @@
 #include "../../driver/driver.c"
 #undef driver_carry
 
-enum { MOST_OPS = 26000 / OP_WORDS, SUPERLINE = 24 };
+#include "drivelog.h"
 
-static uint64_t held[OP_WORDS * MOST_OPS];
+enum { SUPERLINE = 24 };
+
+static uint64_t held[DRIVELOG_OPS_WORDS];
 static size_t held_count;
 
 static int carry_those(struct driver_module *module, const uint64_t *ops, size_t count, uint64_t code)
@@ -28,7 +30,7 @@ static int carry_those(struct driver_module *module, const uint64_t *ops, size_t
 int driver_carry(struct driver_module *module, const uint64_t *ops, size_t count)
 {
     const char *way = getenv("BREAK");
-    if (way == NULL || count > MOST_OPS)
+    if (way == NULL || count > DRIVELOG_MAX_OPS)
         return carry_in_turn(module, ops, count);
     if (strcmp(way, "no-flush") == 0)
         return carry_those(module, ops, count, STORE);

@@ -26,9 +26,7 @@
 #include <string.h>
 #include <unistd.h>
 
-enum { OPS_WORDS = 26000, STATE_ROOM = 1024, OPEN_AT_ONCE = 4 };
-enum { WRONG_STAGE = 6, TABLE_FULL = 9, NO_ROOM = 10, NOT_READY = 11 }; /* refusals */
-enum { HEAD_LSN = 2, NEXT_LSN = 4, COMMITTED_LSN = 5 };
+enum { OPEN_AT_ONCE = 4, CURSOR_LSN = 1 };
 
 /* A record that is reserved and not complete, and how much of its payload is copied. */
 struct open_record {
@@ -38,13 +36,14 @@ struct open_record {
 };
 
 static struct driver_module *module;
-static uint64_t image[DRIVELOG_MAX_IMAGE / 8], state[STATE_ROOM], ops[OPS_WORDS], reply[4], seed;
+static uint64_t image[DRIVELOG_MAX_IMAGE / 8], state[DRIVELOG_STATE_WORDS], ops[DRIVELOG_OPS_WORDS], reply[DRIVELOG_REPLY_WORDS];
+static uint64_t seed, next_lsn, committed_lsn;
 static size_t words;
 static struct open_record records[OPEN_AT_ONCE];
 static size_t open_count;
 
-#define LENT state, (size_t)drivelog_state_words(), image, words, ops, OPS_WORDS
-#define REPLY reply, 4
+#define LENT state, DRIVELOG_STATE_WORDS, image, words, ops, DRIVELOG_OPS_WORDS
+#define REPLY reply, DRIVELOG_REPLY_WORDS
 
 static uint64_t below(uint64_t limit)
 {
@@ -67,13 +66,13 @@ static void report(const char *form, ...)
 
 static _Noreturn void fail(const char *call)
 {
-    fprintf(stderr, "writer: %s: refused %" PRIu64 " detail %" PRIu64 " (%s)\n", call, reply[0], reply[1], strerror(errno));
+    fprintf(stderr, "writer: %s: refused %" PRIu64 " detail %" PRIu64 " (%s)\n", call, reply[DRIVELOG_REPLY_NUMBER], reply[DRIVELOG_REPLY_DETAIL], strerror(errno));
     exit(3);
 }
 
 static void carry(const char *call)
 {
-    if (driver_carry(module, ops, reply[2]) != 0)
+    if (driver_carry(module, ops, reply[DRIVELOG_REPLY_OPS]) != 0)
         fail(call);
 }
 
@@ -87,7 +86,7 @@ static void good(int64_t answer, const char *call)
 static void release(uint64_t lsn)
 {
     int64_t answer = drivelog_release(LENT, lsn, REPLY);
-    if (answer == -WRONG_STAGE) /* released already */
+    if (answer == -DRIVELOG_WRONG_STAGE) /* released already */
         return;
     if (answer < 0)
         fail("release");
@@ -99,9 +98,12 @@ static void release(uint64_t lsn)
 /* The oldest record, or any. */
 static void release_one(int oldest)
 {
-    uint64_t head = state[HEAD_LSN], committed = state[COMMITTED_LSN];
-    if (head <= committed)
-        release(oldest ? head : head + below(committed - head + 1));
+    uint64_t cursor[DRIVELOG_CURSOR_WORDS];
+    if (drivelog_open(image, words, cursor, DRIVELOG_CURSOR_WORDS, REPLY) < 0)
+        fail("open");
+    uint64_t head = cursor[CURSOR_LSN];
+    if (head <= committed_lsn)
+        release(oldest ? head : head + below(committed_lsn - head + 1));
 }
 
 static void reserve(void)
@@ -112,13 +114,14 @@ static void reserve(void)
     record->length = below(longest[below(8)] + 1);
     record->copied = 0;
     int64_t answer = drivelog_reserve(LENT, kind, record->length, REPLY);
-    if (answer == -NO_ROOM || answer == -TABLE_FULL) {
+    if (answer == -DRIVELOG_NO_ROOM || answer == -DRIVELOG_TABLE_FULL) {
         release_one(1);
         return;
     }
     if (answer < 0)
         fail("reserve");
     record->lsn = (uint64_t)answer;
+    next_lsn = record->lsn + 1;
     char hex[2 * DRIVELOG_MAX_PAYLOAD + 1] = "-";
     for (size_t i = 0; i < record->length; i++) {
         record->payload[i] = (uint8_t)below(256);
@@ -146,14 +149,14 @@ static void go_on_with(size_t index)
 
 static void force(void)
 {
-    uint64_t last = state[NEXT_LSN] - 1, committed = state[COMMITTED_LSN];
+    uint64_t last = next_lsn - 1;
     /* Up to the last record before one that is open. */
     for (size_t i = 0; i < open_count; i++)
         if (records[i].lsn <= last)
             last = records[i].lsn - 1;
-    if (last <= committed)
+    if (last <= committed_lsn)
         return;
-    uint64_t lsn = last - below(last - committed);
+    uint64_t lsn = last - below(last - committed_lsn);
     int64_t answer = drivelog_force(LENT, lsn, 1 + below(8), REPLY);
     if (answer < 0)
         fail("force");
@@ -161,13 +164,14 @@ static void force(void)
         return;
     report("force %" PRIu64 "\n", lsn);
     carry("force");
+    committed_lsn = lsn;
     report("durable %" PRIu64 "\n", lsn);
 }
 
 static void release_all(void)
 {
     int64_t answer = drivelog_release_all(LENT, REPLY);
-    if (answer == -NOT_READY) /* something is not committed */
+    if (answer == -DRIVELOG_UNFINISHED) /* something is not committed */
         return;
     if (answer < 0)
         fail("release all");
@@ -176,9 +180,22 @@ static void release_all(void)
     report("released-all\n");
 }
 
+/* Everything that a recovery finds is committed. */
+static void find_end(void)
+{
+    uint64_t cursor[DRIVELOG_CURSOR_WORDS], record[DRIVELOG_RECORD_WORDS];
+    int64_t found = drivelog_open(image, words, cursor, DRIVELOG_CURSOR_WORDS, REPLY) < 0 ? -1 : 1;
+    while (found == 1)
+        found = drivelog_next(image, words, cursor, DRIVELOG_CURSOR_WORDS, record, DRIVELOG_RECORD_WORDS, REPLY);
+    if (found < 0)
+        fail("open or next");
+    next_lsn = reply[DRIVELOG_REPLY_SECOND];
+    committed_lsn = next_lsn - 1;
+}
+
 int main(int count, char **argument)
 {
-    if (count != 3 || drivelog_state_words() > STATE_ROOM) {
+    if (count != 3) {
         fputs("usage: writer FILE SEED\n", stderr);
         return 2;
     }
@@ -189,7 +206,8 @@ int main(int count, char **argument)
     words = module->count;
     memcpy(image, module->words, 8 * words);
     good(drivelog_recover(LENT, REPLY), "recover");
-    report("recovered %" PRIu64 "\n", state[NEXT_LSN]);
+    find_end();
+    report("recovered %" PRIu64 "\n", next_lsn);
     /* Some runs fill the log, some keep it nearly empty. */
     uint64_t releases = below(4);
     for (;;) {
