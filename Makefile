@@ -20,7 +20,7 @@ demo:
 	@mkdir -p target && tests/progress target/demo.log rt check demo
 	@target/bin/demo
 	@echo
-	@tests/progress target/demo.log rt staticlib $(c_crate)
+	@tests/progress target/demo.log make --silent lib
 	@$(MAKE) --silent tool > target/demo.log 2>&1 || { cat target/demo.log; exit 1; }
 	@tests/tool/demo target/bin/drivelog
 
