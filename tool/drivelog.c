@@ -50,12 +50,10 @@ static const char help[] =
 enum {
     MAX_WORDS = DRIVELOG_MAX_IMAGE / 8,
     SUPERLINE = 24,    /* words before the ring */
-    EPOCH_0 = 12,      /* the epoch's word in copy 0, which word 0 selects by 0, */
-    EPOCH_1 = 20,      /* and in copy 1 */
     RING_DRAWN = 64    /* characters of the ring's line */
 };
 
-enum { CURSOR_POS, CURSOR_LSN, CURSOR_USED };
+enum { CURSOR_POS, CURSOR_LSN, CURSOR_USED, CURSOR_SUPERLINE_EPOCH = 5 };
 enum { MARK_RELEASED = 2 };
 
 static const char *path;
@@ -221,9 +219,6 @@ static void open_to_read(uint64_t *cursor)
     exit(1);
 }
 
-/* That of the superline's copy in use, once it has been opened. */
-static uint64_t epoch(void) { return image[image[0] == 0 ? EPOCH_0 : EPOCH_1]; }
-
 static int64_t next(uint64_t *cursor, uint64_t *record)
 {
     return drivelog_next(image, words, cursor, DRIVELOG_CURSOR_WORDS, record, DRIVELOG_RECORD_WORDS, REPLY);
@@ -315,7 +310,7 @@ static int info(void)
 
     uint64_t room = ring - 1 - cursor[CURSOR_USED];
     printf("words    %zu, of which the ring has %" PRIu64 "\n", words, ring);
-    printf("epoch    %" PRIu64 "\n", epoch());
+    printf("epoch    %" PRIu64 "\n", cursor[CURSOR_SUPERLINE_EPOCH]);
     printf("head     LSN %" PRIu64 " at position %" PRIu64 "\n", head_lsn, head);
     printf("end      LSN %" PRIu64 " at position %" PRIu64 "\n", cursor[CURSOR_LSN], cursor[CURSOR_POS]);
     printf("records  %" PRIu64 " listed, %" PRIu64 " released; a log holds %d\n", listed, released, DRIVELOG_MAX_RECORDS);
