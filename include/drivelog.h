@@ -1,13 +1,13 @@
 /* drivelog.h: the records of a drive's memory module, for C and C++.
  *
  * A program hands in the bytes of a module as they were copied, the image, and asks: how many records are listed, and for one of
- * them, counted from 0, its kind, its LSN (serial number) or its payload; or, in one pass, for a row of numbers of each; or which test a
- * damaged record fails. Records that
- * the drive has released are not listed. What the bytes mean is in docs/FORMAT.md. Link with target/lib/libdrivelog.a, which `make lib` writes.
+ * them, counted from 0, its kind, its LSN (serial number), its epoch or its payload; or, in one pass, for a row of numbers of each; or
+ * which test a damaged record fails. Records that the drive has released are not listed. What the bytes mean is in docs/FORMAT.md. Link
+ * with target/lib/libdrivelog.a, which `make lib` writes.
  *
- * Every call answers for every input, as document 01, slips 1 and 4 of document 02 and crates/query/specs define it; that is proved. There is no set-up, no
- * handle and nothing to free. A call keeps nothing, allocates nothing and writes nowhere but to the output or the rows, so calls may run in
- * several threads at once as long as nobody writes the image meanwhile.
+ * Every call answers for every input, as document 01, slips 1, 4 and 8 of document 02 and crates/query/specs define it; that is proved.
+ * There is no set-up, no handle and nothing to free. A call keeps nothing, allocates nothing and writes nowhere but to the output or the
+ * rows, so calls may run in several threads at once as long as nobody writes the image meanwhile.
  *
  * Memory: `image` points to `bytes` bytes that can be read, `output` to `room` bytes that can be written, `rows` to `room` words that
  * can be written. Image and output need no alignment, rows that of uint64_t. Where the length is 0 the pointer is not followed and may
@@ -83,7 +83,8 @@ enum drivelog_test {
     DRIVELOG_TEST_LENGTH = 3, /* the length is above 1,024 */
     DRIVELOG_TEST_FIT = 4,    /* with the records before it, the record does not fit the log */
     DRIVELOG_TEST_LSN = 5,    /* the LSN is not the expected one, or out of range */
-    DRIVELOG_TEST_CHECK = 6   /* the check is not that of the record */
+    DRIVELOG_TEST_CHECK = 6,  /* the check is not that of the record */
+    DRIVELOG_TEST_EPOCH = 7   /* the epoch is below that of the record before it, or above the superline's */
 };
 
 int64_t drivelog_kind(const uint8_t *image, size_t bytes, uint64_t index);
@@ -109,6 +110,20 @@ int64_t drivelog_lsn(const uint8_t *image, size_t bytes, uint64_t index);
      Example:
 
          printf("the newest record is %lld\n", (long long)drivelog_lsn(image, bytes, (uint64_t)count - 1));
+*/
+
+int64_t drivelog_epoch(const uint8_t *image, size_t bytes, uint64_t index);
+/*
+     The epoch of one listed record, 0 to 4,294,967,295 (2^32 - 1), which tells between which restarts of the drive it was written: a
+   formatted module is in epoch 1, and each restart goes on in a later one. Epochs never fall with the index. 0 is for a record that was
+   stored before there were epochs, or that was loaded from a listing; such records stand before all others.
+
+     Returns the epoch, or what drivelog_kind returns where that is a refusal.
+
+     Example:
+
+         if (drivelog_epoch(image, bytes, 1) > drivelog_epoch(image, bytes, 0))
+             puts("the drive was restarted between the two oldest records");
 */
 
 int64_t drivelog_payload(const uint8_t *image, size_t bytes, uint64_t index, uint8_t *output, size_t room);

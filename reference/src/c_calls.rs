@@ -1,4 +1,4 @@
-//! The calls of slip 1 as a C program makes them, held against our own.
+//! The calls of slips 1, 4 and 8 as a C program makes them, held against our own.
 //!
 //! The program is tests/c/driver.c, linked with another implementation; its head says how it is asked and what it prints. It runs once
 //! for each image, and gets that image at two places in memory.
@@ -117,6 +117,7 @@ enum Request {
     Count,
     Kind(u64),
     Lsn(u64),
+    Epoch(u64),
     /// The output, as it is before the call.
     Payload(u64, Vec<u8>, Place),
     /// The rows, as they are before the call.
@@ -140,6 +141,7 @@ impl Request {
             Request::Count => put(&[2], &[]),
             Request::Kind(index) => put(&[3, *index], &[]),
             Request::Lsn(index) => put(&[4, *index], &[]),
+            Request::Epoch(index) => put(&[9, *index], &[]),
             Request::Payload(index, output, place) => {
                 let [place, gap] = place.words();
                 put(&[5, *index, output.len() as u64, place, gap], output);
@@ -174,6 +176,11 @@ impl Request {
                 let result = query::lsn(image, *index);
                 let _ = writeln!(text, "lsn {index} {result}");
                 ("lsn", result)
+            }
+            Request::Epoch(index) => {
+                let result = query::epoch(image, *index);
+                let _ = writeln!(text, "epoch {index} {result}");
+                ("epoch", result)
             }
             Request::Payload(index, output, _) => {
                 let mut output = output.clone();
@@ -214,7 +221,7 @@ fn requests(rng: &mut Rng, image: &[u8]) -> Vec<Request> {
     for place in [first, Place::any(rng)] {
         requests.extend([Request::Image(place), Request::Count, Request::Damage]);
         for index in indices(rng, image) {
-            requests.extend([Request::Kind(index), Request::Lsn(index)]);
+            requests.extend([Request::Kind(index), Request::Lsn(index), Request::Epoch(index)]);
             for room in rooms(image, index) {
                 let null = room == 0 && rng.chance(1, 2);
                 let place = if null { Place::Null } else { Place::any(rng) };

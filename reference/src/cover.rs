@@ -1,6 +1,7 @@
 //! Which answers and refusals of which calls a set of generated scripts reaches.
 
 use crate::gen::script;
+use crate::refusal::RecordTest;
 use crate::replay::replay;
 use crate::script::{Answer, Outcome};
 use std::fmt::Write as _;
@@ -26,15 +27,22 @@ pub const REACHABLE: [(&str, &[usize]); 11] = [
     ("fetch", &[1, 3, 14]),
 ];
 
-/// Counts for each call: answers that are no refusal at 0, refusals at their numbers.
+/// The calls that meet refusal 12, by each test that it can name.
+const WALKING: [&str; 2] = ["takeup", "next"];
+
+/// Counts for each call: answers that are no refusal at 0, refusals at their numbers; and for those that walk, refusal 12 by its test.
 pub struct Coverage {
     counts: [[u64; REFUSALS + 1]; REACHABLE.len()],
+    tests: [[u64; RecordTest::ALL.len()]; WALKING.len()],
 }
 
 impl Coverage {
     /// Of `count` scripts from `seed` on.
     pub fn of_scripts(seed: u64, count: u64) -> Coverage {
-        let mut coverage = Coverage { counts: [[0; REFUSALS + 1]; REACHABLE.len()] };
+        let mut coverage = Coverage {
+            counts: [[0; REFUSALS + 1]; REACHABLE.len()],
+            tests: [[0; RecordTest::ALL.len()]; WALKING.len()],
+        };
         for i in 0..count {
             let mut output = Vec::new();
             replay(script(seed.wrapping_add(i)).as_slice(), &mut output, None)
@@ -57,6 +65,20 @@ impl Coverage {
             Outcome::Done { .. } => 0,
         };
         self.counts[call][column] += 1;
+        if let Outcome::Refused { test: Some(test), .. } = answer.outcome {
+            let call = WALKING.iter().position(|name| *name == answer.name);
+            self.tests[call.expect("only these walk")][test as usize] += 1;
+        }
+    }
+
+    /// Calls that walk, with the tests of refusal 12 that no script reached.
+    pub fn uncovered_tests(&self) -> Vec<(&'static str, &'static str)> {
+        let mut pairs = Vec::new();
+        for (name, counts) in WALKING.into_iter().zip(&self.tests) {
+            let unmet = RecordTest::ALL.into_iter().filter(|test| counts[*test as usize] == 0);
+            pairs.extend(unmet.map(|test| (name, test.word())));
+        }
+        pairs
     }
 
     /// Reachable pairs of call and answer (0: no refusal) that no script reached.
@@ -79,7 +101,7 @@ impl Coverage {
         pairs
     }
 
-    /// The table, a dot where a call cannot meet a refusal, and the line `uncovered: ...`.
+    /// The table, a dot where a call cannot meet a refusal; refusal 12 by its test; and the line `uncovered: ...`.
     pub fn report(&self) -> String {
         let mut text = format!("{:<10} {:>7}", "call", "ok");
         for number in 1..=REFUSALS {
@@ -97,24 +119,36 @@ impl Coverage {
             }
             text.push('\n');
         }
-        if !self.unexpected().is_empty() {
-            let _ = writeln!(text, "unexpected: {}", list(&self.unexpected()));
+        let _ = write!(text, "\n{:<10}", "12 by test");
+        for test in RecordTest::ALL {
+            let _ = write!(text, " {:>6}", test.word());
         }
-        let _ = writeln!(text, "uncovered: {}", list(&self.uncovered()));
+        text.push('\n');
+        for (name, counts) in WALKING.into_iter().zip(&self.tests) {
+            let _ = write!(text, "{name:<10}");
+            for count in counts {
+                let _ = write!(text, " {count:>6}");
+            }
+            text.push('\n');
+        }
+        if !self.unexpected().is_empty() {
+            let _ = writeln!(text, "unexpected: {}", named(&self.unexpected()).join(", "));
+        }
+        let mut uncovered = named(&self.uncovered());
+        let tests = self.uncovered_tests().into_iter();
+        uncovered.extend(tests.map(|(name, test)| format!("{name} 12 {test}")));
+        if uncovered.is_empty() {
+            uncovered.push("none".to_string());
+        }
+        let _ = writeln!(text, "uncovered: {}", uncovered.join(", "));
         text
     }
 }
 
-fn list(pairs: &[(&str, usize)]) -> String {
-    if pairs.is_empty() {
-        return "none".to_string();
-    }
-    let texts: Vec<String> = pairs
-        .iter()
-        .map(|(name, column)| match column {
-            0 => format!("{name} ok"),
-            number => format!("{name} {number}"),
-        })
-        .collect();
-    texts.join(", ")
+fn named(pairs: &[(&str, usize)]) -> Vec<String> {
+    let name = |(name, column): &(&str, usize)| match column {
+        0 => format!("{name} ok"),
+        number => format!("{name} {number}"),
+    };
+    pairs.iter().map(name).collect()
 }

@@ -3,21 +3,24 @@
 //! The log under test is a replay program (REPLAY.md) in a child process. The bench carries the ops that
 //! its lines report out on a device of its own, cuts power after any number of a call's ops, and puts
 //! images that the device may then hold back into the program. What the program recovers and reads
-//! there has to satisfy demand 3, judged by the bench's own abstract log.
+//! there has to satisfy demand 3, judged by the bench's own abstract log, and each record has to have the epoch of the state that
+//! completed it.
 //!
 //! Two children run the same program: the subject goes through the history, the prober is only given
 //! crash images. So a history can be looked at after every op without being ended by it.
 
-use crate::abstract_log::{AbstractLog, WalkedRecord};
+use crate::abstract_log::{AbstractLog, Completions, WalkedRecord};
+use crate::calls::{walk, Cursor};
 use crate::device::Device;
 use crate::gen::roomy_op_buffer;
 use crate::layout::{
-    record_check, record_size, Header, FIRST_RING_WORD, HEADER_WORDS, MARK_COMMITTED,
-    MARK_RELEASED, MAX_KIND, OLD_TABLE_SIZE, TABLE_SIZE,
+    record_check, record_size, CheckWord, Header, Ring, FIRST_RING_WORD, HEADER_WORDS,
+    MARK_COMMITTED, MARK_RELEASED, MAX_KIND, OLD_TABLE_SIZE, TABLE_SIZE,
 };
 use crate::ops::{Op, OP_WORDS};
 use crate::rng::Rng;
 use crate::script::{digest, Answer, Command, Outcome};
+use std::collections::BTreeSet;
 use std::io::{self, BufRead, BufReader, BufWriter, Write};
 use std::path::PathBuf;
 use std::process::{Child, ChildStdin, ChildStdout, Command as Process, Stdio};
@@ -43,8 +46,11 @@ pub struct Report {
     pub histories: u64,
     pub crashes: u64,
     pub images: u64,
-    /// The most records that a crash image held.
+    /// The most records that a crash image held, and the most different epochs.
     pub most_records: usize,
+    pub most_epochs: usize,
+    /// Crash images with records from before slip 8 before others.
+    pub with_stored: u64,
     pub failure: Option<Failure>,
 }
 
@@ -207,15 +213,40 @@ impl Drop for Replayer {
 
 // ---------------------------------------------------------------- one history
 
+/// What records are held against.
+#[derive(Clone, Default)]
+struct Promises {
+    log: AbstractLog,
+    completions: Completions,
+}
+
+impl Promises {
+    fn feed(&mut self, call: &Command, answer: &Answer, ops_done: usize, epoch: u64) {
+        self.log.feed(call, answer, ops_done);
+        self.completions.feed(call, answer, ops_done, epoch);
+    }
+
+    fn check(&self, walked: &[WalkedRecord]) -> Result<(), String> {
+        self.log.check(walked)?;
+        self.completions.check(walked)
+    }
+}
+
 struct History<'a> {
     rng: Rng,
     subject: &'a mut Replayer,
     prober: &'a mut Replayer,
     report: &'a mut Report,
     device: Device,
-    log: AbstractLog,
+    promises: Promises,
+    /// What the epoch of the subject's state has to be.
+    epoch: u64,
     /// Lengths this history uses. A few only, so that old and new records come to lie alike.
     lengths: Vec<u64>,
+    /// Whether records are seldom released and power fails more often, so that records of several runs stand behind one another.
+    keeps: bool,
+    /// Whether the log is still that of a program from before slip 8, up to a crash.
+    begins_old: bool,
     /// Steps the last walk took, likely those the next one takes.
     usual_walk: usize,
 }
@@ -233,8 +264,11 @@ impl<'a> History<'a> {
             prober,
             report,
             device: Device::new(&[]),
-            log: AbstractLog::default(),
+            promises: Promises::default(),
+            epoch: 0,
             lengths: Vec::new(),
+            keeps: false,
+            begins_old: false,
             usual_walk: 1,
         }
     }
@@ -243,13 +277,17 @@ impl<'a> History<'a> {
         if self.rng.chance(1, 16) {
             return self.run_with_many_records();
         }
+        self.keeps = self.rng.chance(1, 4);
         let words = if self.rng.chance(1, 16) {
             self.rng.between(100, 400)
+        } else if self.keeps {
+            self.rng.between(80, 160)
         } else {
             self.rng.between(40, 72)
         };
         let lengths = [0, 0, 1, 3, 8, 9, 12, 16, 24, 30, 32, 40, 64, 96];
-        self.lengths = (0..self.rng.between(1, 4)).map(|_| self.rng.pick(&lengths)).collect();
+        let lengths = if self.keeps { &lengths[..8] } else { &lengths[..] };
+        self.lengths = (0..self.rng.between(1, 4)).map(|_| self.rng.pick(lengths)).collect();
         if words >= 200 {
             self.lengths.push(self.rng.pick(&[200, 500, 1_023, 1_024]));
         }
@@ -316,15 +354,32 @@ impl<'a> History<'a> {
 
     /// A call whose ops are all carried out.
     fn undisturbed(&mut self, call: &Command) -> Result<Answer, String> {
-        let answer = self.subject.call(call)?;
+        let answer = self.call(call)?;
         self.carry_out(&answer.ops);
-        self.log.feed(call, &answer, answer.ops.len());
+        self.promises.feed(call, &answer, answer.ops.len(), self.epoch);
+        Ok(answer)
+    }
+
+    /// A call on the subject. Formatting starts its epochs at 1, and a recovery goes one beyond the superline's that it finds.
+    fn call(&mut self, call: &Command) -> Result<Answer, String> {
+        let found = superline_epoch(&self.subject.image);
+        let answer = self.subject.call(call)?;
+        match call {
+            Command::Format if !answer.is_refused() => self.epoch = 1,
+            Command::Recover if !answer.is_refused() => self.epoch = found.wrapping_add(1),
+            _ => {}
+        }
         Ok(answer)
     }
 
     fn view(&mut self) -> Result<StateView, String> {
         let state = self.subject.ask(&[Command::State])?;
-        StateView::parse(&state[0]).ok_or_else(|| format!("not a state: {}", state[0]))
+        let view = StateView::parse(&state[0]);
+        let view = view.ok_or_else(|| format!("not a state: {}", state[0]))?;
+        if view.epoch != self.epoch {
+            return Err(format!("the state's epoch is {} instead of {}", view.epoch, self.epoch));
+        }
+        Ok(view)
     }
 
     /// The same beginning for every history: any old image, no state.
@@ -338,9 +393,10 @@ impl<'a> History<'a> {
         let mut commands: Vec<Command> =
             (0..8).map(|field| Command::Field { field, value: 0 }).collect();
         for index in 0..TABLE_SIZE as u64 {
-            commands.push(Command::Entry { index, position: 0, length: 0, kind: 0, stage: 0 });
+            let (position, length, kind, stage, epoch) = (0, 0, 0, 0, 0);
+            commands.push(Command::Entry { index, position, length, kind, stage, epoch });
         }
-        commands.push(Command::Cursor { position: 0, lsn: 0, used: 0, count: 0 });
+        commands.push(Command::Cursor(Cursor::default()));
         commands.push(Command::OpBuffer { words: roomy_op_buffer(words), value: 0 });
         for replayer in [&mut *self.subject, &mut *self.prober] {
             replayer.ask(&commands)?;
@@ -352,13 +408,14 @@ impl<'a> History<'a> {
 
     /// A cut inside formatting is promised nothing, so there is none.
     fn format(&mut self) -> Result<(), String> {
+        self.begins_old = self.rng.chance(1, 3);
         self.device = Device::new(&self.subject.image);
-        let answer = self.subject.call(&Command::Format)?;
+        let answer = self.call(&Command::Format)?;
         if answer.is_refused() {
             return Err(format!("format is refused: {:?}", answer.outcome));
         }
         self.carry_out(&answer.ops);
-        self.log.feed(&Command::Format, &answer, answer.ops.len());
+        self.promises.feed(&Command::Format, &answer, answer.ops.len(), self.epoch);
         Ok(())
     }
 
@@ -370,7 +427,7 @@ impl<'a> History<'a> {
     fn step(&mut self, many_records: bool) -> Result<(), String> {
         let view = self.view()?;
         let call = self.choose(&view);
-        let answer = self.subject.call(&call)?;
+        let answer = self.call(&call)?;
         let all = answer.ops.len();
         let some = self.rng.below(all as u64 + 1) as usize;
         // Many records take long to walk.
@@ -380,45 +437,64 @@ impl<'a> History<'a> {
             (1, Effort::FULL, Effort::SMALL)
         };
 
-        if self.rng.chance(1, 12 * seldom) {
+        let every = if self.keeps { 9 } else { 12 };
+        if self.rng.chance(1, every * seldom) {
             self.carry_out(&answer.ops[..some]);
-            self.log.feed(&call, &answer, some);
+            self.promises.feed(&call, &answer, some, self.epoch);
             return self.crash(full).map_err(|what| describe(&call, some, all, &what));
         }
         if self.rng.chance(2, 5 * seldom) {
             // What if it failed here?
             let mut device = self.device.clone();
             answer.ops[..some].iter().for_each(|&op| device.carry_out(op));
-            let mut log = self.log.clone();
-            log.feed(&call, &answer, some);
-            self.probe(&device, &log, small).map_err(|what| describe(&call, some, all, &what))?;
+            let mut promises = self.promises.clone();
+            promises.feed(&call, &answer, some, self.epoch);
+            self.probe(&device, &promises, small)
+                .map_err(|what| describe(&call, some, all, &what))?;
         }
         self.carry_out(&answer.ops);
-        self.log.feed(&call, &answer, all);
+        self.promises.feed(&call, &answer, all, self.epoch);
         Ok(())
     }
 
     /// Power fails, and perhaps again while recovering.
     fn crash(&mut self, effort: Effort) -> Result<(), String> {
         loop {
-            let images = self.probe(&self.device.clone(), &self.log.clone(), effort)?;
-            let image = &images[self.rng.below(images.len() as u64) as usize];
-            self.device = Device::new(image);
-            let load = self.subject.load(image);
+            let mut images = self.probe(&self.device.clone(), &self.promises.clone(), effort)?;
+            let mut image = images.swap_remove(self.rng.below(images.len() as u64) as usize);
+            if self.begins_old {
+                self.begins_old = self.rng.chance(1, 2);
+                self.forget_epochs(&mut image)?;
+            }
+            self.device = Device::new(&image);
+            let load = self.subject.load(&image);
             self.subject.ask(&load)?;
             if self.rng.chance(1, 4) {
                 self.recover_with_short_op_buffer_on_subject()?;
             }
-            let answer = self.subject.call(&Command::Recover)?;
+            let answer = self.call(&Command::Recover)?;
             expect_recovered(&answer)?;
-            if self.rng.chance(1, 3) {
-                let some = self.rng.below(answer.ops.len() as u64 + 1) as usize;
-                self.carry_out(&answer.ops[..some]);
-            } else {
-                self.carry_out(&answer.ops);
+            let all = answer.ops.len();
+            let cut = self.rng.chance(1, 3);
+            let some = if cut { self.rng.below(all as u64 + 1) as usize } else { all };
+            self.carry_out(&answer.ops[..some]);
+            self.promises.feed(&Command::Recover, &answer, some, self.epoch);
+            if !cut {
                 return Ok(());
             }
         }
+    }
+
+    /// All that happened so far was the work of a program from before slip 8, which has the same words but for the epochs.
+    fn forget_epochs(&mut self, image: &mut [u64]) -> Result<(), String> {
+        let (records, _) = walk(image).map_err(|refusal| format!("no walk: {refusal:?}"))?;
+        let ring = Ring::of_image(image).ok_or("not the size of an image")?;
+        for record in records {
+            let word = &mut image[ring.word(record.position, 2) as usize];
+            *word = CheckWord { epoch: 0, ..CheckWord::of_word(*word) }.word();
+        }
+        self.promises.completions.forget_epochs();
+        self.check_image(image, &self.promises.clone())
     }
 
     fn recover_with_short_op_buffer_on_subject(&mut self) -> Result<(), String> {
@@ -436,20 +512,20 @@ impl<'a> History<'a> {
     fn probe(
         &mut self,
         device: &Device,
-        log: &AbstractLog,
+        promises: &Promises,
         effort: Effort,
     ) -> Result<Vec<Vec<u64>>, String> {
         self.report.crashes += 1;
         let images = crash_images(&mut self.rng, &device.crash_values(), effort);
         for image in &images {
             self.report.images += 1;
-            self.check_image(image, log)?;
+            self.check_image(image, promises)?;
         }
         Ok(images)
     }
 
-    /// Demand 3 for one crash image.
-    fn check_image(&mut self, image: &[u64], log: &AbstractLog) -> Result<(), String> {
+    /// Demand 3 for one crash image, and its records' epochs.
+    fn check_image(&mut self, image: &[u64], promises: &Promises) -> Result<(), String> {
         let load = self.prober.load(image);
         let (_, mut walked) = self.walk_after(load)?;
 
@@ -463,8 +539,11 @@ impl<'a> History<'a> {
         let (answers, mut left) = self.walk_after(commands)?;
         let (fetched, recovered) = answers.split_at(walked.len());
         take_bytes(&mut walked, fetched)?;
-        log.check(&walked)?;
+        promises.check(&walked)?;
         self.report.most_records = self.report.most_records.max(walked.len());
+        let epochs: BTreeSet<u64> = walked.iter().map(|record| record.epoch).collect();
+        self.report.most_epochs = self.report.most_epochs.max(epochs.len());
+        self.report.with_stored += u64::from(epochs.len() > 1 && epochs.contains(&0));
         if short_first {
             expect_short(&recovered[0])?;
         }
@@ -500,14 +579,17 @@ impl<'a> History<'a> {
         loop {
             for answer in &steps {
                 match (&answer.outcome, answer.numbers("record")) {
-                    (_, Some(&[position, lsn, kind, length, mark])) => walked.push(WalkedRecord {
-                        position,
-                        lsn,
-                        kind,
-                        length,
-                        mark,
-                        bytes_digest: 0,
-                    }),
+                    (_, Some(&[position, lsn, kind, length, mark, epoch])) => {
+                        walked.push(WalkedRecord {
+                            position,
+                            lsn,
+                            kind,
+                            length,
+                            mark,
+                            epoch,
+                            bytes_digest: 0,
+                        });
+                    }
                     (Outcome::Done { word, .. }, _) if word == "end" => {
                         self.usual_walk = walked.len() + 1;
                         return Ok((answers, walked));
@@ -528,21 +610,29 @@ impl<'a> History<'a> {
         let open = view.in_stage(OPEN);
         let committed = view.in_stage(COMMITTED);
         let forceable = view.forceable();
+        let keeps = self.keeps;
         let rng = &mut self.rng;
         match rng.below(20) {
             0..=3 if !open.is_empty() => {
                 let lsn = rng.pick(&open);
-                self.choose_copy(lsn, view.length(lsn))
+                self.choose_copy(lsn, view)
             }
+            4..=8 if keeps && !open.is_empty() => Command::Complete { lsn: open[0] },
             4..=8 if !open.is_empty() => Command::Complete { lsn: rng.pick(&open) },
             9..=11 if !forceable.is_empty() => {
                 let lsn = rng.pick(&forceable);
                 let frequency = if rng.chance(2, 3) { 1 } else { rng.between(1, 9) };
                 Command::Force { lsn, frequency }
             }
-            12..=14 if !committed.is_empty() => Command::Release { lsn: rng.pick(&committed) },
-            15 if rng.chance(1, 4) => Command::ReleaseAll,
+            12..=15 if keeps && !forceable.is_empty() => {
+                Command::Force { lsn: forceable[forceable.len() - 1], frequency: 1 }
+            }
+            12..=14 if !committed.is_empty() && (!keeps || rng.chance(1, 9)) => {
+                Command::Release { lsn: rng.pick(&committed) }
+            }
+            15 if rng.chance(1, if keeps { 40 } else { 4 }) => Command::ReleaseAll,
             17 if rng.chance(1, 8) => Command::Recover, // without a crash
+            18..=19 if keeps && !open.is_empty() => Command::Complete { lsn: open[0] },
             16 if rng.chance(1, 3) => {
                 // Mostly refused.
                 let lsn =
@@ -559,7 +649,7 @@ impl<'a> History<'a> {
                 // Now and then even where there is no room.
                 if record_size(length) < view.free_words() || rng.chance(1, 6) {
                     Command::Reserve { kind: rng.between(1, MAX_KIND), length }
-                } else if !committed.is_empty() {
+                } else if !committed.is_empty() && !(keeps && (open.len() + forceable.len() > 0)) {
                     // The oldest, to make room.
                     Command::Release { lsn: committed[0] }
                 } else if !open.is_empty() {
@@ -573,15 +663,17 @@ impl<'a> History<'a> {
         }
     }
 
-    /// Any bytes, or such as look like a committed record soon to come.
-    fn choose_copy(&mut self, lsn: u64, length: u64) -> Command {
+    /// Any bytes, or such as look like a committed record soon to come, mostly with the state's epoch.
+    fn choose_copy(&mut self, lsn: u64, view: &StateView) -> Command {
         let rng = &mut self.rng;
+        let length = view.length(lsn);
         if length >= 8 * HEADER_WORDS && rng.chance(1, 2) {
             let later = lsn + rng.between(1, 3);
             let kind = rng.between(1, MAX_KIND);
             let header = Header { length: 0, kind, mark: MARK_COMMITTED };
             let check = record_check(0, kind, later, std::iter::empty());
-            let words = [header.word(), later, check];
+            let epoch = rng.pick(&[0, view.epoch, view.epoch, view.epoch, view.epoch + 1]);
+            let words = [header.word(), later, CheckWord { check, epoch }.word()];
             let offset = 8 * rng.below(length / 8 - HEADER_WORDS + 1);
             let bytes = words.into_iter().flat_map(u64::to_le_bytes).collect();
             return Command::Copy { lsn, offset, bytes };
@@ -674,6 +766,15 @@ fn expect_short(answer: &Answer) -> Result<(), String> {
     Ok(())
 }
 
+/// What the selected copy has where its epoch stands.
+fn superline_epoch(image: &[u64]) -> u64 {
+    match image {
+        [0, ..] => image[12],
+        [1, ..] => image[20],
+        _ => 0,
+    }
+}
+
 fn describe(call: &Command, done: usize, all: usize, what: &str) -> String {
     format!("power fails after {done} of {all} ops of {call:?}: {what}")
 }
@@ -684,12 +785,13 @@ const OPEN: u64 = 1;
 const COMPLETE: u64 = 2;
 const COMMITTED: u64 = 3;
 
-/// Only helps to choose calls; nothing is judged by it.
+/// Only helps to choose calls; nothing but the epoch is judged by it.
 struct StateView {
     capacity: u64,
     head_lsn: u64,
     next_lsn: u64,
     committed_lsn: u64,
+    epoch: u64,
     /// Length and stage by table index.
     entries: [(u64, u64); TABLE_SIZE],
 }
@@ -711,10 +813,11 @@ impl StateView {
             head_lsn: numbers[2],
             next_lsn: numbers[4],
             committed_lsn: numbers[5],
+            epoch: numbers[7],
             entries: [(0, 0); TABLE_SIZE],
         };
-        for entry in numbers[8..].chunks(5) {
-            let &[index, _position, length, _kind, stage] = entry else {
+        for entry in numbers[8..].chunks(6) {
+            let &[index, _position, length, _kind, stage, _epoch] = entry else {
                 return None;
             };
             *view.entries.get_mut(index as usize)? = (length, stage);

@@ -3,11 +3,11 @@
 //! The generator carries each command out while it writes it down, so that it knows what is live, what
 //! fits and how many ops a call is going to have. The same seed gives the same script.
 
-use crate::calls::{self, Next};
+use crate::calls::{self, Cursor, Next};
 use crate::device::Device;
 use crate::layout::{
-    record_check, record_size, Header, Ring, Superline, FIRST_RING_WORD, HEADER_WORDS, LSN_LIMIT,
-    MARK_COMMITTED, MARK_RELEASED, MAX_EPOCH, MAX_IMAGE_WORDS, MAX_KIND, MAX_LENGTH,
+    record_check, record_size, CheckWord, Header, Ring, Superline, FIRST_RING_WORD, HEADER_WORDS,
+    LSN_LIMIT, MARK_COMMITTED, MARK_RELEASED, MAX_EPOCH, MAX_IMAGE_WORDS, MAX_KIND, MAX_LENGTH,
     MIN_IMAGE_WORDS, OLD_TABLE_SIZE, TABLE_SIZE,
 };
 use crate::ops::OP_WORDS;
@@ -98,7 +98,7 @@ impl Generator {
     }
 
     fn chapter(&mut self) {
-        match self.rng.below(12) {
+        match self.rng.below(13) {
             0..=2 => self.small_history(),
             3 => self.large_history(),
             4 if self.rng.chance(1, 2) => self.many_records(),
@@ -109,6 +109,7 @@ impl Generator {
             8 => self.damaged_superlines(),
             9 => self.damaged_records(),
             10 => self.last_numbers(),
+            11 => self.other_epochs(),
             _ => {
                 self.odd_cursors();
                 self.noise();
@@ -341,6 +342,9 @@ impl Generator {
         let words = self.rng.between(40, 200);
         let steps = self.rng.between(10, 60);
         self.history(words, steps);
+        for _ in 0..self.rng.below(3) {
+            self.records_of_a_run();
+        }
         for _ in 0..12 {
             self.damage_a_record();
         }
@@ -363,7 +367,7 @@ impl Generator {
             }
         };
         let size = record_size(length);
-        match self.rng.below(3) {
+        match self.rng.below(4) {
             0 => {
                 // Also the terminator behind it.
                 let word = ring.word(position, self.rng.below(size + 1));
@@ -373,11 +377,30 @@ impl Generator {
             1 => {
                 let mut header = Header::of_word(ring.read(&good, position, 0));
                 match self.rng.below(3) {
-                    0 => header.length = self.rng.pick(&[0, 1, 1_024, 1_025, u32::MAX as u64]),
+                    0 => {
+                        // What just fits, and one word more.
+                        let before = records.iter().take_while(|it| it.position != position);
+                        let used: u64 = before.map(|it| record_size(it.length)).sum();
+                        let most = 8 * (ring.capacity() - used).saturating_sub(1 + HEADER_WORDS);
+                        let lengths = [0, 1, most, most + 8, 1_024, 1_025, u32::MAX as u64];
+                        header.length = self.rng.pick(&lengths);
+                    }
                     1 => header.kind = self.rng.pick(&[0, 1, MAX_KIND]),
                     _ => header.mark = self.rng.pick(&[0, 1, 2, 3, 65_535]),
                 }
                 self.poke_header_with_check(ring, position, header);
+            }
+            2 => {
+                let before = records.iter().take_while(|record| record.position != position);
+                let last = before.last().map_or(0, |record| record.epoch);
+                let epoch = self.epoch_near(last, end.superline_epoch);
+                self.poke_epoch(ring, position, epoch);
+                if self.rng.chance(1, 4) {
+                    // Both halves wrong, or the check alone.
+                    let word = ring.word(position, 2);
+                    let value = self.machine.image[word as usize] ^ 1 << self.rng.below(32);
+                    self.send(Command::Poke { word, value });
+                }
             }
             _ => {
                 let lsn = ring.read(&good, position, 1);
@@ -415,6 +438,110 @@ impl Generator {
         self.forge_record_at_end();
     }
 
+    /// Epochs in the records of an image that no run of the calls left there, or that a program from before slip 8 left: all 0, some of
+    /// the first 0, any mixture, falling, above the superline's. What recovers goes on for a while.
+    fn other_epochs(&mut self) {
+        let words = self.rng.between(80, 300);
+        self.format(words);
+        for _ in 0..self.rng.between(4, 10) {
+            for _ in 0..self.rng.between(1, 3) {
+                self.records_of_a_run();
+            }
+            let good = self.machine.image.clone();
+            let Ok((records, end)) = calls::walk(&good) else {
+                return;
+            };
+            let ring = Ring::of_image(&good).expect("a history's image has a good size");
+            let superline = end.superline_epoch;
+            let epochs = self.epochs_of_records(records.len(), superline);
+            for (record, epoch) in records.iter().zip(epochs) {
+                self.poke_epoch(ring, record.position, epoch);
+            }
+            if self.rng.chance(1, 4) {
+                let copy = good[0];
+                let start = Superline::first_word(copy) as usize;
+                let epoch = self.epoch_near(superline, superline).max(1);
+                let superline = Superline {
+                    capacity: good[start + 1],
+                    head_position: good[start + 2],
+                    head_lsn: good[start + 3],
+                    epoch,
+                };
+                self.poke_superline(copy, superline);
+            }
+            self.walk();
+            self.device = Some(Device::new(&self.machine.image));
+            if self.call(Command::Recover).is_refused() {
+                self.set_image(&good);
+                self.device = Some(Device::new(&good));
+                self.call(Command::Recover);
+            }
+            for _ in 0..self.rng.below(8) {
+                self.step();
+            }
+            self.send(Command::State);
+        }
+    }
+
+    /// A few records that are durable, and a recovery; the oldest are released if there is no room.
+    fn records_of_a_run(&mut self) {
+        for _ in 0..self.rng.between(1, 3) {
+            let length = self.rng.below(12);
+            let answer = self.make(Command::Reserve { kind: 8, length });
+            match answer.numbers("ok") {
+                Some(&[lsn, _position]) => {
+                    self.make(Command::Complete { lsn });
+                    self.make(Command::Force { lsn, frequency: 1 });
+                }
+                _ => {
+                    let oldest = self.machine.state.head_lsn;
+                    self.make(Command::Release { lsn: oldest });
+                }
+            }
+        }
+        self.call(Command::Recover);
+    }
+
+    /// So many epochs, in one of the shapes that a walk can meet.
+    fn epochs_of_records(&mut self, count: usize, superline: u64) -> Vec<u64> {
+        let rng = &mut self.rng;
+        let mut epochs: Vec<u64> = (0..count).map(|_| rng.between(0, superline)).collect();
+        epochs.sort();
+        let which = rng.below(count.max(1) as u64) as usize;
+        match rng.below(9) {
+            0 => epochs.fill(0),
+            1 => epochs.fill(superline),
+            2 | 3 => epochs[..which].fill(0),
+            4 => epochs.reverse(),
+            5 => epochs.iter_mut().filter(|_| rng.chance(1, 2)).for_each(|epoch| *epoch = 0),
+            6 => epochs.iter_mut().skip(which).take(1).for_each(|epoch| *epoch = 0),
+            7 => {
+                let above = (superline + 1).min(MAX_EPOCH);
+                epochs.iter_mut().skip(which).for_each(|epoch| *epoch = above);
+            }
+            _ => {}
+        }
+        epochs
+    }
+
+    /// An epoch at one of the limits of the test, or any other.
+    fn epoch_near(&mut self, last: u64, superline: u64) -> u64 {
+        let epochs = [
+            0,
+            last.saturating_sub(1),
+            last,
+            last + 1,
+            superline.saturating_sub(1),
+            superline,
+            superline + 1,
+            MAX_EPOCH,
+        ];
+        match self.rng.below(12) {
+            0 => self.rng.between(0, MAX_EPOCH),
+            _ => self.rng.pick(&epochs).min(MAX_EPOCH),
+        }
+    }
+
     /// Makes the image an empty log with this head LSN and epoch, its head anywhere; to be recovered.
     fn empty_log(&mut self, head_lsn: u64, epoch: u64) {
         let capacity = self.machine.image.len() as u64 - FIRST_RING_WORD;
@@ -439,7 +566,7 @@ impl Generator {
                 cursor = opened;
             }
             let edges = [0, 1, capacity - 1, capacity, u64::MAX];
-            match self.rng.below(6) {
+            match self.rng.below(9) {
                 0 => cursor.position = self.rng.pick(&edges),
                 1 => cursor.lsn = self.rng.pick(&[0, 1, LSN_LIMIT, LSN_LIMIT + 1, u64::MAX]),
                 2 => cursor.used = self.rng.pick(&edges),
@@ -452,17 +579,27 @@ impl Generator {
                     cursor.used = self.rng.below(capacity);
                     cursor.count = self.rng.below(TABLE_SIZE as u64 + 1);
                 }
+                // The last epoch at, below and above the superline's; either any number.
+                5 => {
+                    let epoch = cursor.superline_epoch;
+                    let (below, above) = (epoch.wrapping_sub(1), epoch.wrapping_add(1));
+                    let edges = [0, 1, below, epoch, above, MAX_EPOCH, MAX_EPOCH + 1, u64::MAX];
+                    cursor.last_epoch = self.rng.pick(&edges);
+                }
+                6 => cursor.superline_epoch = self.rng.pick(&[0, 1, 2, 1 << 32, u64::MAX]),
+                7 => {
+                    cursor.last_epoch = self.number();
+                    let last = cursor.last_epoch;
+                    let any = self.number();
+                    let edges = [last, last.wrapping_sub(1), last.wrapping_add(1), any];
+                    cursor.superline_epoch = self.rng.pick(&edges);
+                }
                 _ => {
                     cursor.position = self.rng.below(capacity);
                     cursor.lsn = self.number();
                 }
             }
-            self.send(Command::Cursor {
-                position: cursor.position,
-                lsn: cursor.lsn,
-                used: cursor.used,
-                count: cursor.count,
-            });
+            self.send(Command::Cursor(cursor));
             self.send(Command::Next);
             if self.rng.chance(1, 3) {
                 self.send(Command::Next);
@@ -484,13 +621,16 @@ impl Generator {
                     length: self.number(),
                     kind: self.number(),
                     stage: self.rng.below(7),
+                    epoch: self.number(),
                 },
-                5 => Command::Cursor {
+                5 => Command::Cursor(Cursor {
                     position: self.number(),
                     lsn: self.number(),
                     used: self.number(),
                     count: self.number(),
-                },
+                    last_epoch: self.number(),
+                    superline_epoch: self.number(),
+                }),
                 6 => Command::Format,
                 7 => Command::Reserve { kind: self.number(), length: self.number() },
                 8 => {
@@ -539,8 +679,15 @@ impl Generator {
             }
             4 => {
                 // Cut off, the last one within its data.
-                let commands: [&[u64]; 5] =
-                    [&[10, 1, 50], &[31, 5, 1, 2, 3], &[11, 1], &[31, 22, 1, 2], &[12, 1, 0, 9, 5]];
+                let commands: [&[u64]; 7] = [
+                    &[10, 1, 50],
+                    &[31, 5, 1, 2, 3, 4, 1],
+                    &[31, 6, 1, 2, 3, 4],
+                    &[31, 6, 1, 2, 3, 4, 5],
+                    &[11, 1],
+                    &[31, 22, 1, 2],
+                    &[12, 1, 0, 9, 5],
+                ];
                 let command = self.rng.pick(&commands);
                 self.words.extend(command);
             }
@@ -648,7 +795,7 @@ impl Generator {
         self.send(Command::Open);
         for _ in 0..TABLE_SIZE + 2 {
             let answer = self.send(Command::Next);
-            let Some(&[position, _lsn, _kind, length, _mark]) = answer.numbers("record") else {
+            let Some(&[position, _, _, length, _, _]) = answer.numbers("record") else {
                 break;
             };
             if self.rng.chance(1, 4) {
@@ -743,7 +890,7 @@ impl Generator {
             let kind = self.rng.between(1, MAX_KIND);
             let position = state.next_position;
             let lsn = state.next_lsn;
-            *state.entry_mut(lsn) = Entry { position, length, kind, stage: Stage::Free };
+            *state.entry_mut(lsn) = Entry { position, length, kind, ..Entry::FREE };
             used += record_size(length);
             state.next_position = (position + record_size(length)) % capacity;
             state.next_lsn += 1;
@@ -758,6 +905,18 @@ impl Generator {
                 [Stage::Committed, Stage::Released]
             };
             state.entry_mut(lsn).stage = self.rng.pick(&stages);
+        }
+        // Any that are not above the state's, falling ones too.
+        let epoch = state.epoch;
+        let shape = self.rng.below(4);
+        for lsn in state.live() {
+            let entry = state.entry_mut(lsn);
+            entry.epoch = match (entry.stage, shape) {
+                (Stage::Open, _) | (_, 0) => 0,
+                (_, 1) => epoch,
+                (_, 2) => self.rng.pick(&[0, 1, epoch - 1, epoch]),
+                _ => self.rng.between(0, epoch),
+            };
         }
         state
     }
@@ -796,7 +955,7 @@ impl Generator {
             _ => rng.pick(&[LSN_LIMIT, LSN_LIMIT + 1, MAX_EPOCH, MAX_EPOCH + 1, u64::MAX]),
         };
         let rng = &mut self.rng;
-        match rng.below(16) {
+        match rng.below(20) {
             0 => state.capacity = near(rng, good.capacity),
             1 => state.head_position = near(rng, good.head_position),
             2 => state.head_lsn = near(rng, good.head_lsn),
@@ -824,6 +983,23 @@ impl Generator {
                     state.next_position = good.head_position;
                 }
             }
+            // Above the state's, or not; of an open, a free or any other entry.
+            15 | 16 => {
+                let epochs = [0, 1, good.epoch - 1, good.epoch, good.epoch + 1, MAX_EPOCH];
+                entry.epoch = rng.pick(&epochs).min(MAX_EPOCH);
+            }
+            17 => {
+                // An open record with an epoch that would be right for a complete one.
+                let open = good.live().find(|&lsn| good.entry(lsn).stage == Stage::Open);
+                if let Some(lsn) = open {
+                    state.entry_mut(lsn).epoch = rng.pick(&[1, good.epoch]);
+                }
+            }
+            18 => {
+                // The state's own epoch at, below and above an entry's.
+                let epoch = entry.epoch;
+                state.epoch = rng.pick(&[epoch, epoch + 1, epoch.saturating_sub(1)]);
+            }
             _ => {
                 // Move all places on, which leaves the state sound.
                 let capacity = good.capacity;
@@ -848,10 +1024,11 @@ impl Generator {
         }
         for (index, (new, old)) in (0..).zip(wanted.table.iter().zip(&now.table)) {
             if new != old {
-                let [position, length, kind, stage] = entry_numbers(new);
+                let [position, length, kind, stage, epoch] = entry_numbers(new);
                 // Now and then another way to say the same.
                 let index = index + TABLE_SIZE as u64 * self.rng.below(3);
-                self.send(Command::Entry { index, position, length, kind, stage });
+                let epoch = epoch + (self.rng.pick(&[0, 0, 0, 1, 0xFFFF_FFFF]) << 32);
+                self.send(Command::Entry { index, position, length, kind, stage, epoch });
             }
         }
     }
@@ -902,7 +1079,14 @@ impl Generator {
         }
     }
 
-    /// A changed word 0 with the check that would be right for it, if there can be one.
+    /// The epoch of the record at a position; its check stays.
+    fn poke_epoch(&mut self, ring: Ring, position: u64, epoch: u64) {
+        let word = ring.word(position, 2);
+        let old = CheckWord::of_word(self.machine.image[word as usize]);
+        self.send(Command::Poke { word, value: CheckWord { epoch, ..old }.word() });
+    }
+
+    /// A changed word 0 with the check that would be right for it, if there can be one. The epoch stays.
     fn poke_header_with_check(&mut self, ring: Ring, position: u64, header: Header) {
         self.send(Command::Poke { word: ring.word(position, 0), value: header.word() });
         let image = &self.machine.image;
@@ -910,7 +1094,9 @@ impl Generator {
         let length = header.length.min(2 * MAX_LENGTH);
         let payload = ring.payload(image, position, length);
         let check = record_check(header.length, header.kind, lsn, payload);
-        self.send(Command::Poke { word: ring.word(position, 2), value: check });
+        let word = ring.word(position, 2);
+        let old = CheckWord::of_word(image[word as usize]);
+        self.send(Command::Poke { word, value: CheckWord { check, ..old }.word() });
     }
 
     /// Puts a marked record where the cursor of a finished walk stands, then walks and recovers.
@@ -927,6 +1113,9 @@ impl Generator {
         let header = Header { length: 0, kind: self.rng.pick(&[0, 5, 5]), mark };
         self.send(Command::Poke { word: ring.word(cursor.position, 1), value: cursor.lsn });
         self.poke_header_with_check(ring, cursor.position, header);
+        let epoch = self
+            .epoch_near(cursor.last_epoch.min(MAX_EPOCH), cursor.superline_epoch.min(MAX_EPOCH));
+        self.poke_epoch(ring, cursor.position, epoch);
         self.walk();
         let state = self.machine.state.clone();
         self.call(Command::Recover);

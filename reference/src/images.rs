@@ -1,13 +1,13 @@
 //! Images of every sort, as bytes: whole logs, each way in which a record or a superline can be wrong, every wrong size.
 //!
 //! The seed chooses the sort in turn and the rest at random, so as many seeds in a row as there are sorts have one of each. Where one
-//! test is to fail, the check is made to fit, so that no other test hides it.
+//! test is to fail, the check is made to fit and the epoch stays, so that no other test hides it.
 
 use crate::gen;
 use crate::layout::{
-    record_check, record_size, Header, Superline, FIRST_RING_WORD, LSN_LIMIT, MARK_COMMITTED,
-    MARK_RELEASED, MAX_CAPACITY, MAX_EPOCH, MAX_IMAGE_WORDS, MAX_KIND, MAX_LENGTH, MIN_CAPACITY,
-    MIN_IMAGE_WORDS, OLD_TABLE_SIZE, TABLE_SIZE,
+    record_check, record_size, CheckWord, Header, Superline, FIRST_RING_WORD, LSN_LIMIT,
+    MARK_COMMITTED, MARK_RELEASED, MAX_CAPACITY, MAX_EPOCH, MAX_IMAGE_WORDS, MAX_KIND, MAX_LENGTH,
+    MIN_CAPACITY, MIN_IMAGE_WORDS, OLD_TABLE_SIZE, TABLE_SIZE,
 };
 use crate::rng::Rng;
 use crate::samples::{full_image_length, Record, Written};
@@ -15,7 +15,7 @@ use crate::samples::{full_image_length, Record, Written};
 /// The name of a sort, and how an image of it is made.
 pub type Sort = (&'static str, fn(&mut Rng) -> Vec<u8>);
 
-pub const SORTS: [Sort; 41] = [
+pub const SORTS: [Sort; 49] = [
     // Whole logs.
     ("few records", |rng| whole(rng, 0, 8, 0)),
     ("some released", |rng| whole(rng, 1, 20, 2)),
@@ -29,6 +29,10 @@ pub const SORTS: [Sort; 41] = [
     ("longest payload", longest_payload),
     ("last LSNs", last_lsns),
     ("padding set", padding_set),
+    ("epochs all 0", |rng| with_epochs(rng, |_, _, epochs| epochs.fill(0))),
+    ("epochs all the superline's", |rng| {
+        with_epochs(rng, |_, superline, epochs| epochs.fill(superline))
+    }),
     ("a history's image", |rng| gen::image(rng.next_u64())),
     // Too many records.
     ("too many", |rng| too_many(rng).bytes()),
@@ -47,7 +51,13 @@ pub const SORTS: [Sort; 41] = [
     ("LSN", |rng| word_1(rng, |rng, lsn| rng.pick(&[lsn - 1, lsn + 1, 0, u64::MAX]))),
     ("LSN above its range", lsn_above_range),
     ("check", |rng| flip(rng, 2..3, 0..32)),
-    ("check, upper half", |rng| flip(rng, 2..3, 32..64)),
+    ("epoch falls", |rng| wrong_epoch(rng, false).0.bytes()),
+    ("epoch passes the superline's", |rng| wrong_epoch(rng, true).0.bytes()),
+    ("epochs mixed with 0", |rng| with_epochs(rng, mix_with_zero)),
+    ("epoch of a released record", released_epoch),
+    ("epoch and check", epoch_and_check),
+    ("epoch, the superline's too low", superline_too_low),
+    ("epoch, one bit", |rng| flip(rng, 2..3, 32..64)),
     ("LSN, check left", |rng| flip(rng, 1..2, 0..64)),
     ("kind, check left", |rng| flip(rng, 0..1, 32..48)),
     ("payload", |rng| flip(rng, 3..5, 0..64)),
@@ -122,9 +132,30 @@ fn records(rng: &mut Rng, count: usize, released: u64) -> Vec<Record> {
             _ => rng.below(20),
         };
         let kind = rng.between(1, MAX_KIND);
-        Record { kind, mark, payload: rng.bytes(length) }
+        Record { kind, mark, epoch: 0, payload: rng.bytes(length) }
     };
     (0..count).map(one).collect()
+}
+
+/// The superline's epoch.
+fn superline_epoch(rng: &mut Rng) -> u64 {
+    match rng.below(4) {
+        0 => rng.pick(&[1, MAX_EPOCH - 1, MAX_EPOCH]),
+        1 => rng.between(1, MAX_EPOCH),
+        _ => rng.between(1, 9),
+    }
+}
+
+/// So many epochs that do not fall and do not pass the superline's; mostly some are 0 at first.
+fn rising_epochs(rng: &mut Rng, count: usize, superline: u64) -> Vec<u64> {
+    let first = rng.pick(&[0, 0, 0, 1, superline]);
+    let mut epochs: Vec<u64> = (0..count).map(|_| rng.between(first, superline)).collect();
+    epochs.sort();
+    let stored = rng.below(count as u64 + 1).min(rng.below(count as u64 + 1));
+    if first == 0 {
+        epochs[..stored as usize].fill(0);
+    }
+    epochs
 }
 
 /// These records somewhere in a ring with so many words more than they need, if there is such a ring.
@@ -143,7 +174,20 @@ fn log_from(rng: &mut Rng, head_lsn: u64, records: &[Record], spare: u64) -> Wri
     let used: u64 = records.iter().map(|record| record_size(record.payload.len() as u64)).sum();
     let capacity = (used + 1 + spare).clamp(MIN_CAPACITY, MAX_CAPACITY);
     let head_position = rng.below(capacity);
-    Written::new((FIRST_RING_WORD + capacity) as usize, head_position, head_lsn, records)
+    let words = (FIRST_RING_WORD + capacity) as usize;
+    let superline = superline_epoch(rng);
+    let mut log = Written::in_epoch(superline, words, head_position, head_lsn, records);
+    let epochs = rising_epochs(rng, records.len(), superline);
+    set_epochs(&mut log, &epochs);
+    log
+}
+
+/// The records' epochs, whatever they were.
+fn set_epochs(log: &mut Written, epochs: &[u64]) {
+    for (position, &epoch) in log.positions.clone().into_iter().zip(epochs) {
+        let word = log.word(position, 2);
+        *word = CheckWord { epoch, ..CheckWord::of_word(*word) }.word();
+    }
 }
 
 /// A log of a few records, some of them released.
@@ -166,6 +210,7 @@ fn full_image(rng: &mut Rng, count: usize) -> Vec<u8> {
     let one = |_| Record {
         kind: rng.between(1, MAX_KIND),
         mark: MARK_COMMITTED,
+        epoch: 0,
         payload: rng.bytes(full_image_length(count as u64)),
     };
     let records: Vec<Record> = (0..count).map(one).collect();
@@ -219,7 +264,7 @@ fn wreck(rng: &mut Rng, make: fn(&mut Rng) -> Written, which: std::ops::Range<us
     let which = rng.between(which.start as u64, which.end as u64 - 1) as usize;
     let position = log.positions[which];
     match rng.below(3) {
-        0 => *log.word(position, 2) ^= 1 << rng.below(64),
+        0 => *log.word(position, 2) ^= 1 << rng.below(32),
         1 => *log.word(position, 0) &= !(0xFFFF << 32),
         _ => *log.word(position, 0) |= 3 << 48,
     }
@@ -235,12 +280,14 @@ fn log_and_record(rng: &mut Rng) -> (Written, u64) {
     (log, position)
 }
 
-/// Makes the check of the record that now stands here fit.
+/// Makes the check of the record that now stands here fit; its epoch stays.
 fn check_again(log: &mut Written, position: u64) {
     let Header { length, kind, .. } = Header::of_word(*log.word(position, 0));
     let lsn = *log.word(position, 1);
     let payload = log.ring.payload(&log.image, position, length.min(2 * MAX_LENGTH));
-    *log.word(position, 2) = record_check(length, kind, lsn, payload);
+    let check = record_check(length, kind, lsn, payload);
+    let word = log.word(position, 2);
+    *word = CheckWord { check, ..CheckWord::of_word(*word) }.word();
 }
 
 fn header(rng: &mut Rng, change: fn(&mut Rng, Header) -> Header) -> Vec<u8> {
@@ -296,7 +343,89 @@ fn flip(rng: &mut Rng, words: std::ops::Range<u64>, bits: std::ops::Range<u64>) 
     log.bytes()
 }
 
+// ---------------------------------------------------------------- epochs
+
+/// A log of some records whose epochs do not fall and do not pass the superline's, and then are changed.
+fn with_epochs(rng: &mut Rng, change: fn(&mut Rng, u64, &mut [u64])) -> Vec<u8> {
+    let mut log = some_log(rng);
+    let superline = superline_of(&log).epoch;
+    let mut epochs = rising_epochs(rng, log.positions.len(), superline);
+    change(rng, superline, &mut epochs);
+    set_epochs(&mut log, &epochs);
+    log.bytes()
+}
+
+/// Some are 0, wherever they stand.
+fn mix_with_zero(rng: &mut Rng, _superline: u64, epochs: &mut [u64]) {
+    epochs.iter_mut().filter(|_| rng.chance(1, 3)).for_each(|epoch| *epoch = 0);
+}
+
+/// A log of two records or more in which the epoch of one passes the superline's, or falls; and the number of that record.
+fn wrong_epoch(rng: &mut Rng, passes: bool) -> (Written, usize) {
+    let count = rng.between(2, 12) as usize;
+    let records = records(rng, count, 4);
+    let mut log = log(rng, &records, 9);
+    let epoch = superline_epoch(rng).min(MAX_EPOCH - 1);
+    let superline = Superline { epoch, ..superline_of(&log) };
+    set_superline(&mut log, superline);
+    let mut epochs = rising_epochs(rng, count, epoch);
+    let which = rng.between(1 - u64::from(passes), count as u64 - 1) as usize;
+    if passes {
+        epochs[which] = rng.pick(&[epoch + 1, MAX_EPOCH]);
+    } else {
+        // Something to fall from.
+        let last = epochs[which - 1].max(1);
+        epochs[which - 1] = last;
+        epochs[which] = rng.pick(&[0, last - 1, last / 2]);
+    }
+    set_epochs(&mut log, &epochs);
+    (log, which)
+}
+
+/// The record whose epoch is wrong is released, or the one before it.
+fn released_epoch(rng: &mut Rng) -> Vec<u8> {
+    let passes = rng.chance(1, 2);
+    let (mut log, which) = wrong_epoch(rng, passes);
+    let released = which.saturating_sub(rng.below(2) as usize);
+    let position = log.positions[released];
+    let word = log.word(position, 0);
+    *word = Header { mark: MARK_RELEASED, ..Header::of_word(*word) }.word();
+    log.bytes()
+}
+
+/// Both halves of a record's word 2 are wrong.
+fn epoch_and_check(rng: &mut Rng) -> Vec<u8> {
+    let passes = rng.chance(1, 2);
+    let (mut log, which) = wrong_epoch(rng, passes);
+    let position = log.positions[which];
+    *log.word(position, 2) ^= 1 << rng.below(32);
+    log.bytes()
+}
+
+/// The superline's epoch is below the last record's, as if an older copy were active.
+fn superline_too_low(rng: &mut Rng) -> Vec<u8> {
+    let mut log = some_log(rng);
+    let superline = superline_of(&log);
+    let low = Superline { epoch: superline.epoch.max(2) - 1, ..superline };
+    let mut epochs = rising_epochs(rng, log.positions.len(), superline.epoch);
+    if let Some(last) = epochs.last_mut() {
+        *last = low.epoch + 1;
+    }
+    set_epochs(&mut log, &epochs);
+    set_superline(&mut log, low);
+    log.bytes()
+}
+
 // ---------------------------------------------------------------- superline
+
+fn superline_of(log: &Written) -> Superline {
+    Superline::read(&log.image, 1).expect("copy 1 is right")
+}
+
+fn set_superline(log: &mut Written, superline: Superline) {
+    let words = superline.words();
+    log.image[16..16 + words.len()].copy_from_slice(&words);
+}
 
 fn first_word(rng: &mut Rng, word: usize, values: &[u64]) -> Vec<u8> {
     let mut log = some_log(rng);
@@ -307,9 +436,8 @@ fn first_word(rng: &mut Rng, word: usize, values: &[u64]) -> Vec<u8> {
 /// Another active copy, with a check that fits it.
 fn superline(rng: &mut Rng, change: fn(&mut Rng, Superline) -> Superline) -> Vec<u8> {
     let mut log = some_log(rng);
-    let good = Superline::read(&log.image, 1).expect("copy 1 is right");
-    let words = change(rng, good).words();
-    log.image[16..16 + words.len()].copy_from_slice(&words);
+    let changed = change(rng, superline_of(&log));
+    set_superline(&mut log, changed);
     log.bytes()
 }
 

@@ -4,8 +4,8 @@
 //! and what is behind the end line last.
 
 use crate::layout::{
-    record_check, record_size, Header, Superline, FIRST_RING_WORD, LSN_LIMIT, MARK_COMMITTED,
-    MAX_CAPACITY, MAX_IMAGE_WORDS, MAX_KIND, MAX_LENGTH, TABLE_SIZE,
+    record_check, record_size, CheckWord, Header, Superline, FIRST_RING_WORD, LSN_LIMIT,
+    MARK_COMMITTED, MAX_CAPACITY, MAX_IMAGE_WORDS, MAX_KIND, MAX_LENGTH, TABLE_SIZE,
 };
 use crate::loglist::HEADING;
 use crate::refusal::{require, Refusal};
@@ -123,7 +123,9 @@ impl Record {
         let Record { lsn, kind, ref payload } = *self;
         let length = payload.len() as u64;
         let check = record_check(length, kind, lsn, payload.iter().copied());
-        let mut words = vec![Header { length, kind, mark: MARK_COMMITTED }.word(), lsn, check];
+        // A listing says no epochs.
+        let check_word = CheckWord { check, epoch: 0 }.word();
+        let mut words = vec![Header { length, kind, mark: MARK_COMMITTED }.word(), lsn, check_word];
         words.extend(payload.chunks(8).map(|bytes| {
             let mut word = [0; 8];
             word[..bytes.len()].copy_from_slice(bytes);

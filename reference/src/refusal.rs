@@ -1,4 +1,4 @@
-//! The table "When a call declines", refusals 16 to 18 of document 02, and the tests that slip 4 has refusal 12 name.
+//! The table "When a call declines", refusals 16 to 18 of document 02, and the tests that slips 4 and 8 have refusal 12 name.
 
 /// Why a call declined. Its number and detail are those of the documents.
 #[derive(Clone, Copy, Debug, PartialEq, Eq)]
@@ -96,16 +96,18 @@ pub enum RecordTest {
     Fit,
     Lsn,
     Check,
+    Epoch,
 }
 
 impl RecordTest {
-    pub const ALL: [RecordTest; 6] = [
+    pub const ALL: [RecordTest; 7] = [
         RecordTest::Mark,
         RecordTest::Kind,
         RecordTest::Length,
         RecordTest::Fit,
         RecordTest::Lsn,
         RecordTest::Check,
+        RecordTest::Epoch,
     ];
 
     /// Counted from 1.
@@ -118,7 +120,7 @@ impl RecordTest {
     }
 
     pub fn word(self) -> &'static str {
-        ["mark", "kind", "length", "fit", "LSN", "check"][self as usize]
+        ["mark", "kind", "length", "fit", "LSN", "check", "epoch"][self as usize]
     }
 }
 

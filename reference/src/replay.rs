@@ -54,17 +54,18 @@ impl Machine {
                 }
                 None
             }
-            Command::Entry { index, position, length, kind, stage } => {
+            Command::Entry { index, position, length, kind, stage, epoch } => {
                 state.table[(index % TABLE_SIZE as u64) as usize] = Entry {
                     position: position % 65_536,
                     length: length % 65_536,
                     kind: kind % 65_536,
                     stage: stage_numbered(stage),
+                    epoch: epoch % (1 << 32),
                 };
                 None
             }
-            Command::Cursor { position, lsn, used, count } => {
-                *cursor = Cursor { position, lsn, used, count };
+            Command::Cursor(given) => {
+                *cursor = given;
                 None
             }
 
@@ -116,8 +117,9 @@ impl Machine {
                 let text = match result {
                     Ok(opened) => {
                         *cursor = opened;
-                        let Cursor { position, lsn, used, count } = opened;
-                        format!("ok {position} {lsn} {used} {count}")
+                        let Cursor { position, lsn, used, count, last_epoch, superline_epoch } =
+                            opened;
+                        format!("ok {position} {lsn} {used} {count} {last_epoch} {superline_epoch}")
                     }
                     Err(refusal) => refused(refusal),
                 };
@@ -127,8 +129,8 @@ impl Machine {
                 let text = match shortcut::next(shortcut, image, cursor) {
                     Ok(Next::Record { record, behind }) => {
                         *cursor = behind;
-                        let calls::Record { position, lsn, kind, length, mark } = record;
-                        format!("record {position} {lsn} {kind} {length} {mark}")
+                        let calls::Record { position, lsn, kind, length, mark, epoch } = record;
+                        format!("record {position} {lsn} {kind} {length} {mark} {epoch}")
                     }
                     Ok(Next::End { lsn }) => format!("end {lsn}"),
                     Err(refusal) => refused(refusal),
@@ -161,8 +163,8 @@ impl Machine {
                 }
                 for (i, entry) in state.table.iter().enumerate() {
                     if entry.stage != Stage::Free {
-                        let [position, length, kind, stage] = entry_numbers(entry);
-                        let _ = write!(line, " [{i} {position} {length} {kind} {stage}]");
+                        let [position, length, kind, stage, epoch] = entry_numbers(entry);
+                        let _ = write!(line, " [{i} {position} {length} {kind} {stage} {epoch}]");
                     }
                 }
                 Some(line)
@@ -238,8 +240,8 @@ pub fn fields(state: &State) -> [u64; 8] {
     ]
 }
 
-/// Position, length, kind and the stage's number.
-pub fn entry_numbers(entry: &Entry) -> [u64; 4] {
+/// Position, length, kind, the stage's number and the epoch.
+pub fn entry_numbers(entry: &Entry) -> [u64; 5] {
     let stage = match entry.stage {
         Stage::Free => 0,
         Stage::Open => 1,
@@ -247,7 +249,7 @@ pub fn entry_numbers(entry: &Entry) -> [u64; 4] {
         Stage::Committed => 3,
         Stage::Released => 4,
     };
-    [entry.position, entry.length, entry.kind, stage]
+    [entry.position, entry.length, entry.kind, stage, entry.epoch]
 }
 
 fn stage_numbered(number: u64) -> Stage {

@@ -3,8 +3,9 @@
 //! The text is put together here from the records that were written, and does not come from any program.
 
 use crate::layout::{
-    record_check, record_size, Header, Ring, Superline, FIRST_RING_WORD, LSN_LIMIT, MARK_COMMITTED,
-    MARK_RELEASED, MAX_CAPACITY, MAX_IMAGE_WORDS, MAX_LENGTH, OLD_TABLE_SIZE, TABLE_SIZE,
+    record_check, record_size, CheckWord, Header, Ring, Superline, FIRST_RING_WORD, LSN_LIMIT,
+    MARK_COMMITTED, MARK_RELEASED, MAX_CAPACITY, MAX_EPOCH, MAX_IMAGE_WORDS, MAX_LENGTH,
+    OLD_TABLE_SIZE, TABLE_SIZE,
 };
 use crate::loglist::HEADING;
 
@@ -18,12 +19,17 @@ pub struct Sample {
 pub(crate) struct Record {
     pub(crate) kind: u64,
     pub(crate) mark: u64,
+    pub(crate) epoch: u64,
     pub(crate) payload: Vec<u8>,
 }
 
+/// A record from before slip 8.
 fn record(kind: u64, mark: u64, payload: &[u8]) -> Record {
-    Record { kind, mark, payload: payload.to_vec() }
+    Record { kind, mark, epoch: 0, payload: payload.to_vec() }
 }
+
+/// The superline's epoch, where nothing else is said.
+const EPOCH: u64 = 3;
 
 /// An image of so many words that holds these records from a head position and LSN on. Copy 1 of its superline is active.
 pub(crate) struct Written {
@@ -42,10 +48,21 @@ impl Written {
         head_lsn: u64,
         records: &[Record],
     ) -> Written {
+        Written::in_epoch(EPOCH, words, head_position, head_lsn, records)
+    }
+
+    /// The same with this epoch in the superline.
+    pub(crate) fn in_epoch(
+        epoch: u64,
+        words: usize,
+        head_position: u64,
+        head_lsn: u64,
+        records: &[Record],
+    ) -> Written {
         let mut image = vec![0x7777_7777_7777_7777; words];
         let ring = Ring::of_image(&image).expect("a good size");
         let capacity = ring.capacity();
-        let superline = Superline { capacity, head_position, head_lsn, epoch: 3 };
+        let superline = Superline { capacity, head_position, head_lsn, epoch };
         image[0] = 1;
         for (i, word) in superline.words().into_iter().enumerate() {
             image[16 + i] = word;
@@ -71,7 +88,7 @@ impl Written {
         let check = record_check(length, record.kind, lsn, record.payload.iter().copied());
         *self.word(position, 0) = Header { length, kind: record.kind, mark: record.mark }.word();
         *self.word(position, 1) = lsn;
-        *self.word(position, 2) = check;
+        *self.word(position, 2) = CheckWord { check, epoch: record.epoch }.word();
         for (i, chunk) in record.payload.chunks(8).enumerate() {
             let mut bytes = [0; 8];
             bytes[..chunk.len()].copy_from_slice(chunk);
@@ -116,6 +133,7 @@ fn line(lsn: u64, record: &Record) -> String {
 pub fn samples() -> Vec<Sample> {
     let mut samples = listings();
     samples.extend(damage());
+    samples.extend(epochs());
     samples.extend(superlines());
     samples.extend(sizes());
     samples
@@ -130,8 +148,12 @@ pub fn full_image_length(records: u64) -> u64 {
 /// An image of 8,192 words that is full of so many records, at most 256.
 pub fn full_image(records: u64) -> Vec<u8> {
     let length = full_image_length(records) as usize;
-    let records: Vec<Record> =
-        (0..records).map(|i| record(i + 1, MARK_COMMITTED, &vec![i as u8; length])).collect();
+    let records: Vec<Record> = (0..records)
+        .map(|i| Record {
+            epoch: EPOCH - 1,
+            ..record(i + 1, MARK_COMMITTED, &vec![i as u8; length])
+        })
+        .collect();
     Written::new(MAX_IMAGE_WORDS as usize, 0, 1, &records).bytes()
 }
 
@@ -145,8 +167,15 @@ fn listings() -> Vec<Sample> {
         let written = Written::new(words, position, lsn, &records);
         samples.push(sample(name, written.bytes(), written.ends(records.len())));
     };
+    // The first quarter from before slip 8, then one run behind another.
     let some = |count: usize| -> Vec<Record> {
-        (0..count).map(|i| record(1 + i as u64, MARK_COMMITTED, &[i as u8; 5])).collect()
+        let epoch = |i: usize| (4 * i / count) as u64;
+        (0..count)
+            .map(|i| Record {
+                epoch: epoch(i),
+                ..record(1 + i as u64, MARK_COMMITTED, &[i as u8; 5])
+            })
+            .collect()
     };
     whole("none", 40, 0, 1, vec![]);
     whole("one", 40, 0, 1, some(1));
@@ -192,32 +221,44 @@ fn listings() -> Vec<Sample> {
     damaged(257, 256);
     damaged(65, 65);
     damaged(100, 65);
+    // The same with an epoch above the superline's.
+    for which in [256, 257] {
+        let mut written = many(257);
+        let position = written.positions[which - 1];
+        *written.word(position, 2) += 1 << 32;
+        let text = match which {
+            257 => too_many(&written),
+            _ => written.text(which - 1, "damaged epoch", 99 + which as u64),
+        };
+        let name = format!("257-records-epoch-of-the-{which}th");
+        samples.push(sample(name, written.bytes(), text));
+    }
     samples
 }
 
 /// The second of three records fails each test alone, and each test with all behind it; and some more ways.
 fn damage() -> Vec<Sample> {
-    let records: Vec<Record> = (0..3).map(|i| record(5, MARK_COMMITTED, &[i; 9])).collect();
+    let records: Vec<Record> =
+        (0..3).map(|i| Record { epoch: 2, ..record(5, MARK_COMMITTED, &[i; 9]) }).collect();
     let good = Header { length: 9, kind: 5, mark: MARK_COMMITTED };
     let mut samples = Vec::new();
     // 36 words of ring, used from position 0 on; 1,025 bytes fit only a longer one.
-    let mut broken =
-        |name: &str, words: usize, header: Header, lsn: u64, check_bits: u64, test: &str| {
-            let mut written = Written::new(words, 0, 20, &records);
-            let position = written.positions[1];
-            *written.word(position, 0) = header.word();
-            *written.word(position, 1) = lsn;
-            // The check that is expected of this record, some bits of it changed.
-            let length = header.length.min(2_000);
-            let payload: Vec<u8> = written.ring.payload(&written.image, position, length).collect();
-            let check = record_check(header.length, header.kind, 21, payload.into_iter());
-            *written.word(position, 2) = check ^ check_bits;
-            samples.push(sample(
-                format!("damaged-{name}"),
-                written.bytes(),
-                written.text(1, &format!("damaged {test}"), 21),
-            ));
-        };
+    let mut broken = |name: &str, words: usize, header: Header, lsn: u64, bits: u64, test: &str| {
+        let mut written = Written::new(words, 0, 20, &records);
+        let position = written.positions[1];
+        *written.word(position, 0) = header.word();
+        *written.word(position, 1) = lsn;
+        // The check that is expected of this record and the last epoch, some bits of them changed.
+        let length = header.length.min(2_000);
+        let payload: Vec<u8> = written.ring.payload(&written.image, position, length).collect();
+        let check = record_check(header.length, header.kind, 21, payload.into_iter());
+        *written.word(position, 2) = CheckWord { check, epoch: 2 }.word() ^ bits;
+        samples.push(sample(
+            format!("damaged-{name}"),
+            written.bytes(),
+            written.text(1, &format!("damaged {test}"), 21),
+        ));
+    };
     let beyond = Header { length: 8 * (36 - 5 - 3), ..good }; // one word too many: no place for the terminator
     broken("mark-alone", 60, Header { mark: 3, ..good }, 21, 0, "mark");
     broken("kind-alone", 60, Header { kind: 0, ..good }, 21, 0, "kind");
@@ -225,15 +266,24 @@ fn damage() -> Vec<Sample> {
     broken("fit-alone", 60, beyond, 21, 0, "fit");
     broken("lsn-alone", 60, good, 22, 0, "LSN");
     broken("check-alone", 60, good, 21, 1, "check");
+    // Epoch 0 behind epoch 2, epoch 6 above the superline's 3.
+    let (below, above) = (2 << 32, 4 << 32);
+    broken("epoch-alone-below", 60, good, 21, below, "epoch");
+    broken("epoch-alone-above", 60, good, 21, above, "epoch");
     let all = Header { length: 4_000, kind: 0, mark: 3 };
-    broken("mark-and-all-behind", 60, all, 22, 1, "mark");
-    broken("kind-and-all-behind", 60, Header { mark: MARK_RELEASED, ..all }, 22, 1, "kind");
-    broken("length-and-all-behind", 60, Header { length: 4_000, ..good }, 22, 1, "length");
-    broken("fit-and-all-behind", 60, beyond, 22, 1, "fit");
-    broken("lsn-and-all-behind", 60, good, 0, 1, "LSN");
+    let both = 1 | above;
+    broken("mark-and-all-behind", 60, all, 22, both, "mark");
+    broken("kind-and-all-behind", 60, Header { mark: MARK_RELEASED, ..all }, 22, both, "kind");
+    broken("length-and-all-behind", 60, Header { length: 4_000, ..good }, 22, both, "length");
+    broken("fit-and-all-behind", 60, beyond, 22, both, "fit");
+    broken("lsn-and-all-behind", 60, good, 0, both, "LSN");
+    broken("check-and-epoch-below", 60, good, 21, 1 | below, "check");
+    broken("check-and-epoch-above", 60, good, 21, both, "check");
     broken("largest-mark", 60, Header { mark: 65_535, ..good }, 21, 0, "mark");
-    // The check's word is whole: a set upper half is damage too.
-    broken("check-upper-half", 60, good, 21, 1 << 32, "check");
+    broken("largest-epoch", 60, good, 21, (2 ^ MAX_EPOCH) << 32, "epoch");
+    let released = Header { mark: MARK_RELEASED, ..good };
+    broken("released-epoch-below", 60, released, 21, below, "epoch");
+    broken("released-epoch-above", 60, released, 21, above, "epoch");
 
     let mut written = Written::new(60, 0, 20, &records);
     let position = written.positions[1];
@@ -254,6 +304,49 @@ fn damage() -> Vec<Sample> {
     let position = written.positions[1];
     *written.word(position, 4) |= 0xff00;
     samples.push(sample("padding-set", written.bytes(), written.ends(records.len())));
+    samples
+}
+
+/// Records of these epochs under a superline's, some of them released; so many are fine, and the one behind them is damaged.
+fn epochs() -> Vec<Sample> {
+    let mut samples = Vec::new();
+    let mut walked =
+        |name: &str, superline: u64, epochs: &[u64], released: &[usize], good: usize| {
+            let mark = |i| if released.contains(&i) { MARK_RELEASED } else { MARK_COMMITTED };
+            let records: Vec<Record> = epochs
+                .iter()
+                .enumerate()
+                .map(|(i, &epoch)| Record { epoch, ..record(9, mark(i), &[i as u8; 3]) })
+                .collect();
+            let written = Written::in_epoch(superline, 60, 30, 50, &records);
+            let listed = (0..good).filter(|i| !released.contains(i)).count();
+            let last = if good == epochs.len() { "end" } else { "damaged epoch" };
+            let text = written.text(listed, last, 50 + good as u64);
+            samples.push(sample(format!("epochs-{name}"), written.bytes(), text));
+        };
+    walked("all-zero", 3, &[0, 0, 0, 0], &[], 4);
+    walked("zero-first", 3, &[0, 0, 2, 3], &[], 4);
+    walked("rise", 9, &[1, 4, 5, 8], &[], 4);
+    walked("all-the-superline's", 3, &[3, 3, 3, 3], &[], 4);
+    walked("all-below-the-superline's", 3, &[2, 2, 2, 2], &[], 4);
+    walked("first-and-only", 1, &[1, 1], &[], 2);
+    walked("largest", MAX_EPOCH, &[0, 1, MAX_EPOCH - 1, MAX_EPOCH], &[], 4);
+    walked("zero-behind", 3, &[0, 1, 0, 1], &[], 2);
+    walked("zero-last", 3, &[3, 3, 0], &[], 2);
+    walked("fall-by-one", 3, &[1, 3, 2, 3], &[], 2);
+    walked("fall-from-the-first", MAX_EPOCH, &[MAX_EPOCH, 1], &[], 1);
+    walked("pass-by-one", 3, &[3, 4, 4], &[], 1);
+    walked("pass-at-the-first", 3, &[4, 4], &[], 0);
+    walked("pass-after-zeros", 3, &[0, 0, 4], &[], 2);
+    walked("pass-and-fall", 3, &[1, 9, 0], &[], 1);
+    walked("largest-passes", MAX_EPOCH - 1, &[MAX_EPOCH - 1, MAX_EPOCH], &[], 1);
+    // Released records count in both ways.
+    walked("released-fine", 3, &[1, 2, 2, 3], &[0, 2], 4);
+    walked("fall-behind-released", 3, &[1, 3, 2], &[1], 2);
+    walked("zero-behind-released", 3, &[1, 0], &[0], 1);
+    walked("released-falls", 3, &[2, 1, 2], &[1], 1);
+    walked("released-passes", 3, &[2, 4, 3], &[1], 1);
+    walked("released-zero-behind", 3, &[2, 0, 3], &[1], 1);
     samples
 }
 

@@ -1,5 +1,6 @@
 //! Scripts of the test program: commands as words, answers as lines. The format is REPLAY.md's.
 
+use crate::calls::Cursor;
 use crate::ops::Op;
 use crate::refusal::RecordTest;
 
@@ -15,8 +16,8 @@ pub enum Command {
     Poke { word: u64, value: u64 },
     OpBuffer { words: u64, value: u64 },
     Field { field: u64, value: u64 },
-    Entry { index: u64, position: u64, length: u64, kind: u64, stage: u64 },
-    Cursor { position: u64, lsn: u64, used: u64, count: u64 },
+    Entry { index: u64, position: u64, length: u64, kind: u64, stage: u64, epoch: u64 },
+    Cursor(Cursor),
     Format,
     Reserve { kind: u64, length: u64 },
     Copy { lsn: u64, offset: u64, bytes: Vec<u8> },
@@ -49,10 +50,13 @@ impl Command {
             Command::Poke { word, value } => vec![2, word, value],
             Command::OpBuffer { words, value } => vec![3, words, value],
             Command::Field { field, value } => vec![4, field, value],
-            Command::Entry { index, position, length, kind, stage } => {
-                vec![5, index, position, length, kind, stage]
+            Command::Entry { index, position, length, kind, stage, epoch } => {
+                vec![5, index, position, length, kind, stage, epoch]
             }
-            Command::Cursor { position, lsn, used, count } => vec![6, position, lsn, used, count],
+            Command::Cursor(cursor) => {
+                let Cursor { position, lsn, used, count, last_epoch, superline_epoch } = cursor;
+                vec![6, position, lsn, used, count, last_epoch, superline_epoch]
+            }
             Command::Format => vec![10],
             Command::Reserve { kind, length } => vec![11, kind, length],
             Command::Copy { lsn, offset, ref bytes } => {
@@ -98,8 +102,16 @@ impl Command {
                 length: arg()?,
                 kind: arg()?,
                 stage: arg()?,
+                epoch: arg()?,
             },
-            6 => Command::Cursor { position: arg()?, lsn: arg()?, used: arg()?, count: arg()? },
+            6 => Command::Cursor(Cursor {
+                position: arg()?,
+                lsn: arg()?,
+                used: arg()?,
+                count: arg()?,
+                last_epoch: arg()?,
+                superline_epoch: arg()?,
+            }),
             10 => Command::Format,
             11 => Command::Reserve { kind: arg()?, length: arg()? },
             12 => {
@@ -141,7 +153,7 @@ impl Command {
                 | Command::OpBuffer { .. }
                 | Command::Field { .. }
                 | Command::Entry { .. }
-                | Command::Cursor { .. }
+                | Command::Cursor(_)
         )
     }
 }

@@ -1,6 +1,8 @@
-//! The stored script of the program replay: every command, every refusal of document 01, and the rows of its bench sheet
-//! that are about calls. What the script owes is what our own replay answers to it.
+//! The stored script of the program replay: every command, every refusal of document 01, epochs of every sort, and the rows of its
+//! bench sheet that are about calls. What the script owes is what our own replay answers to it.
 
+use crate::calls::Cursor;
+use crate::layout::{record_check, CheckWord, MAX_EPOCH};
 use crate::script::Command;
 
 const MOST: u64 = u64::MAX;
@@ -13,6 +15,9 @@ pub fn stored_script() -> Vec<u8> {
     script.damage();
     script.a_full_table();
     script.states_by_hand();
+    script.epochs_in_records();
+    script.epochs_in_cursors();
+    script.epochs_in_states();
     script.bench_sheet();
     script.past_a_limit();
     script.words.into_iter().flat_map(u64::to_le_bytes).collect()
@@ -44,12 +49,15 @@ impl Script {
         self.run(Command::Field { field, value });
     }
 
-    fn entry(&mut self, index: u64, position: u64, length: u64, kind: u64, stage: u64) {
-        self.run(Command::Entry { index, position, length, kind, stage });
+    fn entry(&mut self, index: u64, position: u64, length: u64, kind: u64, stage: u64, epoch: u64) {
+        self.run(Command::Entry { index, position, length, kind, stage, epoch });
     }
 
-    fn cursor(&mut self, position: u64, lsn: u64, used: u64, count: u64) {
-        self.run(Command::Cursor { position, lsn, used, count });
+    /// Position, LSN, used, count, last epoch, superline's epoch.
+    fn cursor(&mut self, numbers: [u64; 6]) {
+        let [position, lsn, used, count, last_epoch, superline_epoch] = numbers;
+        let cursor = Cursor { position, lsn, used, count, last_epoch, superline_epoch };
+        self.run(Command::Cursor(cursor));
     }
 
     fn format(&mut self) {
@@ -187,11 +195,11 @@ impl Script {
         self.poke(MOST, 99);
         self.next();
         self.recover();
-        self.cursor(19, 4, 0, 256);
+        self.cursor([19, 4, 0, 256, 0, 2]);
         self.next();
-        self.cursor(19, 4, 0, 257);
+        self.cursor([19, 4, 0, 257, 0, 2]);
         self.next();
-        self.cursor(40, 4, 0, 0);
+        self.cursor([40, 4, 0, 0, 0, 2]);
         self.next();
         self.poke(0, 2);
         self.open();
@@ -210,7 +218,7 @@ impl Script {
         self.op_buffer(33, 0);
         self.format();
         for lsn in 1..=253 {
-            self.entry(lsn, 3 * (lsn - 1), 0, 1, 2);
+            self.entry(lsn, 3 * (lsn - 1), 0, 1, 2, lsn % 2);
         }
         self.field(3, 3 * 253);
         self.field(4, 254);
@@ -256,15 +264,136 @@ impl Script {
         self.field(6, 1);
         self.field(7, 4_294_967_295);
         self.field(8, 1);
-        self.entry(256 + 3, 65_536 + 1, 65_536 + 2, 65_536 + 3, 4);
-        self.entry(64 + 3, 1, 2, 3, 1);
-        self.entry(255, 1, 2, 3, 1);
-        self.entry(4, 1, 2, 3, 1);
-        self.entry(5, 1, 2, 3, 2);
-        self.entry(6, 1, 2, 3, 3);
-        self.entry(7, 1, 2, 3, 5);
+        self.entry(256 + 3, 65_536 + 1, 65_536 + 2, 65_536 + 3, 4, (1 << 32) + 4);
+        self.entry(64 + 3, 1, 2, 3, 1, 0);
+        self.entry(255, 1, 2, 3, 1, MOST);
+        self.entry(4, 1, 2, 3, 1, 1 << 32);
+        self.entry(5, 1, 2, 3, 2, 5);
+        self.entry(6, 1, 2, 3, 3, MAX_EPOCH);
+        self.entry(7, 1, 2, 3, 5, 7);
         self.print_state();
         self.complete(1 << 62);
+    }
+
+    /// Records of three runs, the first of them from before slip 8. Then the last one's epoch falls, passes the superline's, or stays
+    /// between the two; and both halves of its word 2 are wrong.
+    fn epochs_in_records(&mut self) {
+        self.image(64, 3);
+        self.op_buffer(90, 0);
+        self.format();
+        self.reserve(11, 3);
+        self.copy(1, 0, b"old");
+        self.complete(1);
+        self.force(1, 1);
+        self.print_words(26, 1);
+        self.poke(26, record_check(3, 11, 1, b"old".iter().copied()));
+        self.recover();
+        self.print_state();
+        self.reserve(12, 0);
+        self.reserve(13, 0);
+        self.complete(3);
+        self.print_state();
+        self.complete(2);
+        self.force(3, 1);
+        self.recover();
+        self.reserve(14, 1);
+        self.complete(4);
+        self.force(4, 1);
+        self.walk(5);
+        self.print_state();
+        self.release(2);
+        self.release(1);
+        self.print_state();
+        // Record 3 has epoch 2, the superline epoch 3, and record 4 its word 2 in word 36.
+        let check = record_check(1, 14, 4, [0].into_iter());
+        for epoch in [0, 1, 4, MAX_EPOCH, 2, 3] {
+            self.poke(36, CheckWord { check, epoch }.word());
+            self.walk(3);
+        }
+        for epoch in [1, 3, 4] {
+            self.poke(36, CheckWord { check: check ^ 1, epoch }.word());
+            self.walk(2);
+        }
+        self.recover();
+        self.poke(36, CheckWord { check, epoch: 1 }.word());
+        self.recover();
+        self.poke(36, CheckWord { check, epoch: 4 }.word());
+        self.recover();
+        self.poke(36, CheckWord { check, epoch: 2 }.word());
+        self.recover();
+        self.print_state();
+    }
+
+    fn walk(&mut self, steps: usize) {
+        self.open();
+        for _ in 0..steps {
+            self.next();
+        }
+    }
+
+    /// At record 4 of the log above, which has epoch 2.
+    fn epochs_in_cursors(&mut self) {
+        for (last, superline) in [
+            (2, 2),
+            (0, MOST),
+            (0, 2),
+            (2, 1 << 32),
+            (3, 3),
+            (1, 1),
+            (0, 0),
+            (MOST, MOST),
+            (1 << 32, MOST),
+            (1, 0),
+            (3, 2),
+            (MOST, 3),
+            (MOST, MOST - 1),
+        ] {
+            self.cursor([10, 4, 3, 1, last, superline]);
+            self.next();
+        }
+        // 2 is tested before 13 and before the end.
+        self.cursor([10, 4, 3, 256, 3, 2]);
+        self.next();
+        self.cursor([14, 5, 7, 2, 3, 2]);
+        self.next();
+        self.cursor([14, 5, 7, 2, 3, 3]);
+        self.next();
+    }
+
+    /// Entries with the state's epoch, with 0 and falling are sound; one above it is not, nor is one of an open or a free entry.
+    fn epochs_in_states(&mut self) {
+        self.image(64, 0);
+        self.op_buffer(90, 0);
+        self.format();
+        self.field(7, 5);
+        self.entry(1, 0, 0, 1, 2, 5);
+        self.entry(2, 3, 0, 1, 2, (1 << 32) + 2);
+        self.entry(3, 6, 0, 1, 2, 0);
+        self.entry(4, 9, 0, 1, 1, 0);
+        self.field(3, 12);
+        self.field(4, 5);
+        self.print_state();
+        self.copy(4, 0, b"");
+        self.entry(1, 0, 0, 1, 2, 6);
+        self.copy(4, 0, b"");
+        self.entry(1, 0, 0, 1, 2, 5);
+        for epoch in [1, 5, 6] {
+            self.entry(4, 9, 0, 1, 1, epoch);
+            self.copy(4, 0, b"");
+        }
+        self.entry(4, 9, 0, 1, 1, 0);
+        self.entry(9, 0, 0, 0, 0, 1);
+        self.copy(4, 0, b"");
+        self.entry(9, 0, 0, 0, 0, 0);
+        self.field(7, 4);
+        self.copy(4, 0, b"");
+        self.field(7, MAX_EPOCH);
+        self.complete(4);
+        self.force(4, 1);
+        self.release(2);
+        self.print_state();
+        self.release_all();
+        self.print_state();
     }
 
     /// A fresh log whose ring has `capacity` words, over old contents of sevens.

@@ -4,9 +4,11 @@ use reference::calls::{
     complete, copy, force, format, release, reserve, walk, Done, Forced, Reserved,
 };
 use reference::layout::{
-    crc32, record_check, record_size, Header, Superline, COPY_FIRST_WORD, MARK_COMMITTED, MARK_NONE,
+    crc32, record_check, record_size, CheckWord, Header, Superline, COPY_FIRST_WORD,
+    MARK_COMMITTED, MARK_NONE,
 };
 use reference::loglist::loglist;
+use reference::logwhy::logwhy;
 use reference::ops::{Op, OP_WORDS};
 use reference::refusal::Refusal;
 use reference::state::State;
@@ -159,7 +161,10 @@ fn copying_3_bytes() {
 fn complete_and_force() {
     let mut log = abc();
     let ((), ops) = log.complete(1).unwrap();
-    assert_eq!(ops, [store(26, record_check(3, 17, 1, b"ABC".iter().copied()))]);
+    // The check, and above it the epoch of a fresh log, 1.
+    let check = record_check(3, 17, 1, b"ABC".iter().copied());
+    assert_eq!(ops, [store(26, check + (1 << 32))]);
+    assert_eq!(CheckWord::of_word(log.image[26]), CheckWord { check, epoch: 1 });
     let (forced, ops) = log.force(1, 1).unwrap();
     assert_eq!(forced, Forced::Durable);
     assert_eq!(ops, [flush(24, 5), store(24, 281_547_991_154_691), flush(24, 1)]);
@@ -287,6 +292,28 @@ fn loglist_sample() {
     log.complete(1).unwrap();
     log.force(1, 1).unwrap();
     assert_eq!(loglist(&bytes(&log.image)), "lsn kind length data\n1 17 3 414243\nend 2\n");
+}
+
+/// The stored image of the program loglist is that one, over old contents; that of logwhy has one bit of the check wrong, and LSN 7
+/// is asked for.
+#[test]
+fn stored_images() {
+    let old = (0..40).map(|i| 0xA5A5_A5A5_A5A5_A5A5 ^ i).collect();
+    let mut log = Log { image: old, op_buffer: vec![0; 33], state: State::default() };
+    log.state = format(&mut log.image, &mut log.op_buffer).unwrap().answer;
+    log.reserve(17, 3).unwrap();
+    log.copy(1, 0, b"ABC").unwrap();
+    log.complete(1).unwrap();
+    log.force(1, 1).unwrap();
+    assert_eq!(bytes(&log.image), include_bytes!("../../crates/loglist/stdin"));
+    let listing = include_str!("../../crates/loglist/stdout");
+    assert_eq!(loglist(&bytes(&log.image)), listing);
+
+    log.image[26] ^= 1;
+    log.image.push(7);
+    let input = bytes(&log.image);
+    assert_eq!(input, include_bytes!("../../crates/logwhy/stdin"));
+    assert_eq!(logwhy(&input), include_str!("../../crates/logwhy/stdout"));
 }
 
 #[test]

@@ -6,7 +6,9 @@ use std::path::PathBuf;
 use std::time::Duration;
 
 /// The seed of a history that fills the table.
-const MANY_RECORDS: u64 = 131;
+const MANY_RECORDS: u64 = 175;
+/// The seed of a history with records of four epochs in one image, 0 among them.
+const SEVERAL_RUNS: u64 = 72;
 
 fn bench(shortcut: Option<usize>, seed: u64, seconds: u64) -> Report {
     let mut args = vec!["replay".to_string()];
@@ -22,6 +24,15 @@ fn no_failure_without_a_short_cut() {
     let report = bench(None, 77, 4);
     assert!(report.failure.is_none(), "{:?}", report.failure);
     assert!(report.images > 100);
+}
+
+/// Records of several runs, and some from before slip 8, behind one another.
+#[test]
+fn records_of_several_epochs() {
+    let report = bench(None, SEVERAL_RUNS, 1);
+    assert!(report.failure.is_none(), "{:?}", report.failure);
+    assert!(report.most_epochs >= 4, "{}", report.most_epochs);
+    assert!(report.with_stored > 0);
 }
 
 /// The first history of this seed has many records.

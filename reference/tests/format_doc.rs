@@ -2,7 +2,7 @@
 
 use reference::calls::walk;
 use reference::demo::demo;
-use reference::layout::{crc32, record_size, Header, FIRST_RING_WORD, HEADER_WORDS};
+use reference::layout::{crc32, record_size, CheckWord, Header, FIRST_RING_WORD, HEADER_WORDS};
 use reference::loglist::loglist;
 use std::fs;
 
@@ -80,7 +80,7 @@ fn the_bytes_are_those_of_the_first_check() {
         .split_whitespace()
         .map(|pair| u8::from_str_radix(pair, 16).expect("a hex pair"))
         .collect();
-    let check = image()[FIRST_RING_WORD as usize + 2];
+    let CheckWord { check, .. } = CheckWord::of_word(image()[FIRST_RING_WORD as usize + 2]);
     assert_eq!(u64::from(crc32(bytes)), check);
 }
 
@@ -94,7 +94,8 @@ fn the_listing_is_what_loglist_prints() {
 #[test]
 fn the_text_around_them_has_the_right_numbers() {
     let image = image();
-    let (_, end) = walk(&image).expect("no damage");
+    let (records, end) = walk(&image).expect("no damage");
+    assert!(records.iter().all(|record| record.epoch == end.last_epoch));
     let terminator = FIRST_RING_WORD + end.position;
     let behind = terminator + record_size(2);
     let text = worked_image().replace('\n', " ");
@@ -105,6 +106,8 @@ fn the_text_around_them_has_the_right_numbers() {
             1 - image[0],
             image[0]
         ),
+        format!("The records have epoch {}:", end.last_epoch),
+        format!("The state that it gave has epoch {},", end.superline_epoch),
         format!("Word {terminator} was the first word of record {}:", end.lsn),
         format!("The mark in word {behind} survived,"),
         "The check of record 1 is the CRC-32 of these bytes:".to_string(),
@@ -156,7 +159,9 @@ fn header(word: u64) -> String {
 
 /// The words of a record behind its word 0, which stands at `at`.
 fn rest(image: &[u64], at: usize, length: u64, whose: &str) -> Vec<String> {
-    let mut rows = vec![format!("{whose}: LSN {}", image[at + 1]), format!("{whose}: check")];
+    let CheckWord { epoch, .. } = CheckWord::of_word(image[at + 2]);
+    let mut rows =
+        vec![format!("{whose}: LSN {}", image[at + 1]), format!("{whose}: epoch {epoch}, check")];
     let first = at + HEADER_WORDS as usize;
     let bytes: Vec<u8> = image[first..].iter().flat_map(|word| word.to_le_bytes()).collect();
     for word in bytes[..length as usize].chunks(8) {

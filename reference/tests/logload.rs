@@ -1,10 +1,12 @@
 //! Loading a listing: each refusal and its order, an image word by word, the round trip, and the plain loader beside the clear one.
 
+use reference::calls;
 use reference::images::{image, SORTS};
 use reference::load::{all_texts, CHANGES};
 use reference::loglist::loglist;
 use reference::logload::{logload, output};
 use reference::plain;
+use reference::query;
 use reference::refusal::Refusal;
 use reference::samples::{full_image, samples};
 use std::collections::BTreeSet;
@@ -338,6 +340,26 @@ fn word_by_word() {
     assert_eq!(output(text.as_bytes()), bytes);
     assert_eq!(loglist(&bytes), text);
     assert_eq!(answer(&text), 0);
+}
+
+/// Loaded records have epoch 0 whatever the listed ones had, and those that are written behind them have the epoch of a later run.
+#[test]
+fn loaded_records_have_no_epoch() {
+    let bytes = full_image(64);
+    assert_eq!(query::epoch(&bytes, 63), 2);
+    let text = loglist(&bytes);
+    let mut image = logload(text.as_bytes()).unwrap();
+    let mut ops = vec![0; 40];
+    let mut state = calls::recover(&mut image, &mut ops).unwrap().answer;
+    assert!(state.table.iter().all(|entry| entry.epoch == 0));
+    calls::release(&mut image, &mut ops, &mut state, 1).unwrap();
+    calls::reserve(&mut image, &mut ops, &mut state, 9, 0).unwrap();
+    calls::complete(&mut image, &mut ops, &mut state, 65).unwrap();
+    calls::force(&mut image, &mut ops, &mut state, 65, 1).unwrap();
+    let bytes: Vec<u8> = image.iter().flat_map(|word| word.to_le_bytes()).collect();
+    let epochs: Vec<i64> = (0..64).map(|index| query::epoch(&bytes, index)).collect();
+    assert_eq!(epochs[..63], [0; 63]);
+    assert_eq!(epochs[63], 2);
 }
 
 /// The head LSN is the one on the end line if there is no record.

@@ -49,6 +49,29 @@ fn at_and_behind_damage() {
 }
 
 #[test]
+fn at_and_behind_a_wrong_epoch() {
+    // Record 3's word 2; the superline's epoch is 2, the records' 1.
+    for (epoch, damaged) in [(0, true), (1, false), (2, true), (3, true), (u32::MAX, true)] {
+        let mut image = worked_image();
+        image[34] = image[34] & 0xFFFF_FFFF | u64::from(epoch) << 32;
+        assert_eq!(why(&image, 2), "listed");
+        // Epoch 2 is right for record 3, and record 4 falls behind it.
+        let stop = if epoch == 2 { 4 } else { 3 };
+        for lsn in [stop, 5, u64::MAX] {
+            let word = match (damaged, lsn) {
+                (true, _) => format!("damaged {stop} epoch"),
+                (false, 3) => "listed".to_string(),
+                (false, _) => "end".to_string(),
+            };
+            assert_eq!(why(&image, lsn), word, "epoch {epoch}, LSN {lsn}");
+        }
+        // A wrong check comes first.
+        image[34] ^= 1;
+        assert_eq!(why(&image, 3), "damaged 3 check");
+    }
+}
+
+#[test]
 fn refused_inputs() {
     let image = worked_image();
     for size in 0..16 {

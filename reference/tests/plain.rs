@@ -15,7 +15,7 @@ use reference::{gen, query, replay};
 use std::collections::BTreeSet;
 use std::fmt::Debug;
 
-/// The same state as the other log keeps it. Entries hold 16 bits a number, as a script's do.
+/// The same state as the other log keeps it. Entries hold 16 bits a number and 32 of the epoch, as a script's do.
 fn plain_state(state: &State) -> plain::State {
     plain::State {
         capacity: state.capacity,
@@ -37,6 +37,7 @@ fn plain_state(state: &State) -> plain::State {
                 Stage::Committed => plain::Stage::Committed,
                 Stage::Released => plain::Stage::Released,
             },
+            epoch: entry.epoch.try_into().unwrap(),
         }),
     }
 }
@@ -137,7 +138,7 @@ fn same_records(bytes: &[u8]) {
     let mut records = Vec::new();
     let result = plain::listed(bytes, |record| {
         let payload = [record.payload.0, record.payload.1].concat();
-        records.push((i64::from(record.kind), record.lsn as i64, payload));
+        records.push((i64::from(record.kind), record.lsn as i64, i64::from(record.epoch), payload));
     });
     match result {
         Err(refusal) => assert_eq!(query::count(bytes), -(refusal.number() as i64)),
@@ -146,10 +147,11 @@ fn same_records(bytes: &[u8]) {
             assert_eq!(records.len() as u64, count);
             // Each answer takes a walk of its own.
             let step = 1 + records.len() / 40;
-            for (index, (kind, lsn, payload)) in (0..).zip(records).step_by(step) {
+            for (index, (kind, lsn, epoch, payload)) in (0..).zip(records).step_by(step) {
                 let mut output = vec![0; payload.len()];
                 assert_eq!(query::kind(bytes, index), kind);
                 assert_eq!(query::lsn(bytes, index), lsn);
+                assert_eq!(query::epoch(bytes, index), epoch);
                 assert_eq!(query::payload(bytes, index, &mut output), payload.len() as i64);
                 assert_eq!(output, payload);
             }
@@ -275,15 +277,16 @@ fn full_tables() {
     assert!(met.kinds.contains(&("force", Ok(513 / 8))));
 }
 
-/// A state that is sound but for one length, kind or count of records.
+/// A state that is sound but for one length, kind, count of records or epoch.
 #[test]
 fn barely_unsound_states() {
     let mut met = Met::default();
-    for (length, kind, more, refusal) in [
-        (1_024, 1, 0, None),
-        (1_025, 1, 0, Some(2)),
-        (1_024, 0, 0, Some(2)),
-        (1_024, 1, 256, Some(2)),
+    for (length, kind, more, epoch, refusal) in [
+        (1_024, 1, 0, 0, None),
+        (1_025, 1, 0, 0, Some(2)),
+        (1_024, 0, 0, 0, Some(2)),
+        (1_024, 1, 256, 0, Some(2)),
+        (1_024, 1, 0, 1, Some(2)),
     ] {
         let mut machine = Machine::default();
         machine.run(&Command::Image { words: 400, value: 0 });
@@ -291,11 +294,55 @@ fn barely_unsound_states() {
         run_both(&mut machine, &Command::Format, &mut met);
         machine.state.next_lsn = 2 + more;
         machine.state.next_position = record_size(length);
-        machine.state.table[1] = Entry { position: 0, length, kind, stage: Stage::Open };
+        machine.state.table[1] = Entry { position: 0, length, kind, stage: Stage::Open, epoch };
         met.kinds.clear();
         run_both(&mut machine, &Command::Complete { lsn: 1 }, &mut met);
         let answer = refusal.map_or(Ok(0), Err);
-        assert!(met.kinds.contains(&("complete", answer)), "{length} {kind} {more}");
+        assert!(met.kinds.contains(&("complete", answer)), "{length} {kind} {more} {epoch}");
+    }
+}
+
+/// Epochs of live entries in each stage at, below and above the state's, and of each entry that is free.
+#[test]
+fn epochs_of_entries() {
+    let mut met = Met::default();
+    let mut machine = Machine::default();
+    machine.run(&Command::Image { words: 100, value: 0 });
+    machine.run(&Command::OpBuffer { words: 400, value: 7 });
+    run_both(&mut machine, &Command::Format, &mut met);
+    // LSNs 250 to 259 go round the table's end: committed, released, complete and open.
+    machine.state.epoch = 7;
+    let State { head_lsn, next_lsn, committed_lsn, next_position, .. } = &mut machine.state;
+    (*head_lsn, *next_lsn, *committed_lsn, *next_position) = (250, 260, 255, 30);
+    for lsn in 250..260 {
+        let stage = match lsn {
+            250 | 252 | 254 => Stage::Committed,
+            251 | 253 | 255 => Stage::Released,
+            256 | 258 => Stage::Complete,
+            _ => Stage::Open,
+        };
+        let epoch = if stage == Stage::Open { 0 } else { lsn % 8 };
+        let position = 3 * (lsn - 250);
+        *machine.state.entry_mut(lsn) = Entry { position, length: 0, kind: 1, stage, epoch };
+    }
+    let call = Command::Copy { lsn: 259, offset: 0, bytes: vec![] };
+    let ask = |machine: &Machine| {
+        let mut met = Met::default();
+        run_both(&mut machine.clone(), &call, &mut met);
+        met.kinds.contains(&("copy", Ok(0)))
+    };
+    assert!(ask(&machine));
+    for index in 0..TABLE_SIZE as u64 {
+        for epoch in [0, 1, 6, 7, 8, (1 << 32) - 1] {
+            let mut machine = machine.clone();
+            let entry = machine.state.entry_mut(index);
+            entry.epoch = epoch;
+            let sound = match entry.stage {
+                Stage::Free | Stage::Open => epoch == 0,
+                _ => epoch <= 7,
+            };
+            assert_eq!(ask(&machine), sound, "entry {index}, epoch {epoch}");
+        }
     }
 }
 
@@ -330,7 +377,7 @@ fn next_call(rng: &mut Rng, state: &State) -> Command {
 fn change_a_number(rng: &mut Rng, machine: &mut Machine) {
     let index = rng.below(TABLE_SIZE as u64) as usize;
     let entry = &mut machine.state.table[index];
-    match rng.below(6) {
+    match rng.below(7) {
         0 => {
             let field = rng.below(8);
             let old = replay::fields(&machine.state)[field as usize];
@@ -342,7 +389,8 @@ fn change_a_number(rng: &mut Rng, machine: &mut Machine) {
         1 => entry.position = rng.pick(&[0, 1, 65_535, entry.position ^ 1]),
         2 => entry.length = rng.pick(&[0, 1, 1_024, 1_025, 65_535, entry.length ^ 1]),
         3 => entry.kind = rng.pick(&[0, 1, 65_535]),
-        4 => {
+        4 => entry.epoch = rng.pick(&[0, 1, 2, 3, (1 << 32) - 1, entry.epoch ^ 1]),
+        5 => {
             let stages =
                 [Stage::Free, Stage::Open, Stage::Complete, Stage::Committed, Stage::Released];
             entry.stage = rng.pick(&stages);
@@ -375,6 +423,6 @@ fn checks() {
 
 #[test]
 fn sizes() {
-    assert_eq!(size_of::<plain::Entry>(), 8);
-    assert_eq!(size_of::<plain::State>(), 8 * 8 + 256 * 8);
+    assert_eq!(size_of::<plain::Entry>(), 12);
+    assert_eq!(size_of::<plain::State>(), 8 * 8 + 256 * 12);
 }

@@ -4,16 +4,17 @@
 use reference::c_calls::{all_images, ask};
 use reference::demo::demo;
 use reference::images::{self, SORTS};
-use reference::query::{count, damage, kind, lsn, payload};
+use reference::query::{count, damage, epoch, kind, lsn, payload};
 use reference::samples::{full_image, samples};
 use std::collections::BTreeSet;
 
 /// What a call can answer: 0 stands for a value, the others are refusals.
-const REACHABLE: [(&str, &[u64]); 7] = [
+const REACHABLE: [(&str, &[u64]); 8] = [
     ("count", &[0, 1, 4, 12, 13]),
     ("damage", &[0, 1, 4, 13]),
     ("kind", &[0, 1, 4, 12, 13, 16]),
     ("lsn", &[0, 1, 4, 12, 13, 16]),
+    ("epoch", &[0, 1, 4, 12, 13, 16]),
     ("payload", &[0, 1, 4, 12, 13, 14, 16]),
     ("list", &[0, 1, 4, 12, 13, 14]),
     ("payload_at", &[0, 1, 3, 14]),
@@ -32,10 +33,11 @@ fn payload_in(bytes: &[u8], index: u64, room: usize) -> (i64, Vec<u8>) {
 fn assert_refused(name: &str, bytes: &[u8], index: u64, number: i64) {
     assert_eq!(kind(bytes, index), -number, "{name}");
     assert_eq!(lsn(bytes, index), -number, "{name}");
+    assert_eq!(epoch(bytes, index), -number, "{name}");
     assert_eq!(payload_in(bytes, index, 1_100), (-number, vec![OLD; 1_100]), "{name}");
 }
 
-/// The four records of docs/FORMAT.md: LSN, kind, payload.
+/// The four records of docs/FORMAT.md: LSN, kind, payload. All are of the first run.
 const WORKED: [(i64, i64, &[u8]); 4] = [
     (1, 1, &[0x41, 0x20]),
     (2, 2, &[0x08, 0x70]),
@@ -55,6 +57,7 @@ fn the_worked_image_has_its_records() {
     for (index, (its_lsn, its_kind, its_payload)) in (0..).zip(WORKED) {
         assert_eq!(lsn(&bytes, index), its_lsn);
         assert_eq!(kind(&bytes, index), its_kind);
+        assert_eq!(epoch(&bytes, index), 1);
         let length = its_payload.len();
         let (result, output) = payload_in(&bytes, index, length + 5);
         assert_eq!(result, length as i64);
@@ -156,9 +159,10 @@ fn every_sort_of_image_is_what_its_name_says() {
             "more than the old table" | "nearly full table" | "full table" => &[1],
             "full image of 64" | "full image of 256" => &[1],
             "longest payload" | "last LSNs" | "padding set" => &[1],
+            "epochs all 0" | "epochs all the superline's" => &[1],
             "too many" | "too many, the 257th damaged" => &[-13],
-            // A bit may be padding, or one behind the end; and what just fits is no damage.
-            "payload" | "fit" => &[1, -12],
+            // A bit may be padding, or one behind the end; and what just fits is no damage. Epochs that do not fall are none.
+            "payload" | "fit" | "epochs mixed with 0" | "epoch, one bit" => &[1, -12],
             "selector" | "other copy" | "first word" | "capacity" | "head position" => &[-4],
             "head LSN" | "epoch" | "superline's check" | "noise" => &[-4],
             "empty" | "odd byte count" | "too short" | "too long" => &[-1],
@@ -176,7 +180,7 @@ fn every_sort_of_image_is_what_its_name_says() {
     }
 }
 
-/// Images are damaged in each of the six ways, and the counting call says no more than 12 of them.
+/// Images are damaged in each of the seven ways, and the counting call says no more than 12 of them.
 #[test]
 fn every_test_is_named() {
     let mut named = BTreeSet::new();
@@ -186,7 +190,41 @@ fn every_test_is_named() {
         assert_eq!(test == 0, count(&bytes) >= 0, "{name}");
         named.insert(test.max(0));
     }
-    assert_eq!(named, (0..=6).collect());
+    assert_eq!(named, (0..=7).collect());
+}
+
+/// The sorts whose name says that an epoch is wrong are stopped by that test, and by the check if that is wrong too.
+#[test]
+fn wrong_epochs_are_named() {
+    for seed in 0..20 * SORTS.len() as u64 {
+        let (name, bytes) = images::image(seed);
+        let owed: &[i64] = match name {
+            "epoch falls" | "epoch passes the superline's" => &[7],
+            "epoch of a released record" | "epoch, the superline's too low" => &[7],
+            "epoch and check" => &[6],
+            "epochs mixed with 0" | "epoch, one bit" => &[0, 7],
+            _ => continue,
+        };
+        assert!(owed.contains(&damage(&bytes)), "seed {seed}, {name}");
+    }
+}
+
+/// The epochs that were written, in the order of the listed records.
+#[test]
+fn epochs_by_index() {
+    let all = samples();
+    let epochs = |name: &str| -> Vec<i64> {
+        let name = format!("epochs-{name}");
+        let sample = all.iter().find(|sample| sample.name == name).expect("it is there");
+        (0..count(&sample.bytes)).map(|index| epoch(&sample.bytes, index as u64)).collect()
+    };
+    assert_eq!(epochs("all-zero"), [0, 0, 0, 0]);
+    assert_eq!(epochs("zero-first"), [0, 0, 2, 3]);
+    assert_eq!(epochs("rise"), [1, 4, 5, 8]);
+    assert_eq!(epochs("largest"), [0, 1, (1 << 32) - 2, (1 << 32) - 1]);
+    // Without the released ones, which have 1 and 2.
+    assert_eq!(epochs("released-fine"), [2, 3]);
+    assert_eq!(epochs("fall-by-one"), []);
 }
 
 /// As many seeds as there are sorts meet, with the samples, every answer of every call and no other.

@@ -2,8 +2,10 @@
 //! nothing.
 
 use reference::calls::{self, Cursor, Next};
-use reference::layout::{Header, Superline, LSN_LIMIT, MARK_COMMITTED, MAX_EPOCH, TABLE_SIZE};
-use reference::refusal::RecordTest;
+use reference::layout::{
+    CheckWord, Header, Superline, LSN_LIMIT, MARK_COMMITTED, MAX_EPOCH, TABLE_SIZE,
+};
+use reference::refusal::{RecordTest, Refusal};
 use reference::replay::Machine;
 use reference::script::{Answer, Command, Outcome};
 use reference::state::{Entry, Stage, State};
@@ -124,7 +126,7 @@ fn refusal_1_size_is_not_the_states() {
 #[test]
 fn refusal_2_unsound_states() {
     type Change = fn(&mut State);
-    let unsound: [(&str, Change); 31] = [
+    let unsound: [(&str, Change); 37] = [
         ("copy in use 2", |s| s.copy_in_use = 2),
         ("epoch 0", |s| s.epoch = 0),
         ("epoch 2^32", |s| s.epoch = MAX_EPOCH + 1),
@@ -156,6 +158,12 @@ fn refusal_2_unsound_states() {
         ("released but not committed", |s| s.entry_mut(4).stage = Stage::Released),
         ("head released", |s| s.entry_mut(1).stage = Stage::Released),
         ("not live, not free", |s| s.entry_mut(6).stage = Stage::Open),
+        ("committed, epoch above the state's", |s| s.entry_mut(1).epoch = 2),
+        ("released, epoch above the state's", |s| s.entry_mut(2).epoch = MAX_EPOCH),
+        ("complete, epoch above the state's", |s| s.entry_mut(4).epoch = 2),
+        ("open, epoch not 0", |s| s.entry_mut(5).epoch = 1),
+        ("open, epoch above the state's", |s| s.entry_mut(5).epoch = 2),
+        ("free, epoch not 0", |s| s.entry_mut(6).epoch = 1),
     ];
     for (what, change) in unsound {
         let machine = but(&with_all_stages(), |machine| change(&mut machine.state));
@@ -169,6 +177,7 @@ fn refusal_2_unsound_states() {
         Entry { position: 1, ..Entry::FREE },
         Entry { length: 1, ..Entry::FREE },
         Entry { kind: 1, ..Entry::FREE },
+        Entry { epoch: 1, ..Entry::FREE },
     ] {
         let machine = but(&with_all_stages(), |machine| *machine.state.entry_mut(60) = entry);
         refused(&machine, Command::ReleaseAll, 2, 0);
@@ -185,7 +194,8 @@ fn refusal_2_capacity_and_used_words() {
     for (length, sound) in [(96, true), (97, false), (104, false)] {
         let mut state = State::fresh(16);
         state.next_lsn = 2;
-        *state.entry_mut(1) = Entry { position: 0, length, kind: 1, stage: Stage::Open };
+        let open = Entry { position: 0, length, kind: 1, stage: Stage::Open, epoch: 0 };
+        *state.entry_mut(1) = open;
         state.next_position = state.entry(1).size() % 16;
         assert_eq!(state.is_sound(), sound, "L = {length}");
     }
@@ -204,16 +214,92 @@ fn refusal_2_cursors() {
         Cursor { used: u64::MAX, ..good },
         Cursor { count: 257, ..good },
         Cursor { count: u64::MAX, ..good },
+        Cursor { last_epoch: 2, ..good },
+        Cursor { last_epoch: u64::MAX, ..good },
+        Cursor { last_epoch: u64::MAX, superline_epoch: u64::MAX - 1, ..good },
+        Cursor { last_epoch: 1, superline_epoch: 0, ..good },
     ] {
         refused(&but(&machine, |machine| machine.cursor = bad), Command::Next, 2, 0);
     }
     // A count of 256 may be, and stands before the end or a record too many.
     for count in [64, 65, 255, 256] {
-        let at_end = Cursor { position: 15, lsn: 4, used: 15, count };
+        let at_end = Cursor { position: 15, lsn: 4, used: 15, count, ..good };
         assert_eq!(calls::next(&machine.image, &at_end), Ok(Next::End { lsn: 4 }));
     }
     let full = but(&machine, |machine| machine.cursor = Cursor { count: 256, ..good });
     refused(&full, Command::Next, 13, 1);
+    // The epochs may be any numbers, if the last does not pass the superline's. The record here has epoch 1.
+    for (last_epoch, superline_epoch, fits) in [
+        (0, 1, true),
+        (1, 1, true),
+        (1, u64::MAX, true),
+        (0, 1 << 40, true),
+        (0, 0, false),
+        (2, 2, false),
+        (2, u64::MAX, false),
+        (u64::MAX, u64::MAX, false),
+    ] {
+        let cursor = Cursor { last_epoch, superline_epoch, ..good };
+        match calls::next(&machine.image, &cursor) {
+            Ok(Next::Record { record, behind }) => {
+                assert!(fits, "{cursor:?}");
+                assert_eq!(record.epoch, 1);
+                assert_eq!((behind.last_epoch, behind.superline_epoch), (1, superline_epoch));
+            }
+            other => {
+                let refusal = Refusal::Damaged { lsn: 1, test: RecordTest::Epoch };
+                assert_eq!((other, fits), (Err(refusal), false), "{cursor:?}");
+            }
+        }
+    }
+}
+
+/// Epochs that a state may have although no run of the calls leaves them.
+#[test]
+fn sound_epochs() {
+    type Change = fn(&mut State);
+    let sound: [(&str, Change); 5] = [
+        ("none", |s| s.table.iter_mut().for_each(|entry| entry.epoch = 0)),
+        ("complete without one", |s| s.entry_mut(4).epoch = 0),
+        ("all below the state's", |s| s.epoch = 9),
+        ("falling", |s| (s.epoch, s.entry_mut(1).epoch) = (9, 9)),
+        ("largest", |s| (s.epoch, s.entry_mut(3).epoch) = (MAX_EPOCH, MAX_EPOCH)),
+    ];
+    for (what, change) in sound {
+        let mut machine = but(&with_all_stages(), |machine| change(&mut machine.state));
+        assert!(machine.state.is_sound(), "{what}");
+        ok(&mut machine, Command::Complete { lsn: 5 });
+        assert_eq!(machine.state.entry(5).epoch, machine.state.epoch, "{what}");
+    }
+}
+
+/// Which calls set an entry's epoch, and which keep it.
+#[test]
+fn epochs_of_entries() {
+    let mut machine = with_all_stages();
+    let epochs = |machine: &Machine| {
+        machine.state.live().map(|k| machine.state.entry(k).epoch).collect::<Vec<u64>>()
+    };
+    assert_eq!(epochs(&machine), [1, 1, 1, 1, 0]);
+    assert_eq!(CheckWord::of_word(machine.image[24 + 20 + 2]), CheckWord { check: 0, epoch: 0 });
+    ok(&mut machine, Command::Recover);
+    // Records 4 and 5 are gone, and the next ones are of another run.
+    assert_eq!((machine.state.epoch, epochs(&machine)), (2, vec![1, 1, 1]));
+    ok(&mut machine, Command::Reserve { kind: 1, length: 12 });
+    ok(&mut machine, Command::Copy { lsn: 4, offset: 0, bytes: vec![1] });
+    assert_eq!(epochs(&machine), [1, 1, 1, 0]);
+    ok(&mut machine, Command::Complete { lsn: 4 });
+    assert_eq!(epochs(&machine), [1, 1, 1, 2]);
+    ok(&mut machine, Command::Force { lsn: 4, frequency: 1 });
+    assert_eq!(CheckWord::of_word(machine.image[24 + 15 + 2]).epoch, 2);
+    ok(&mut machine, Command::Release { lsn: 4 });
+    assert_eq!(epochs(&machine), [1, 1, 1, 2]);
+    // The head and the released one behind it are freed.
+    ok(&mut machine, Command::Release { lsn: 1 });
+    assert_eq!(epochs(&machine), [1, 2]);
+    assert_eq!([*machine.state.entry(1), *machine.state.entry(2)], [Entry::FREE; 2]);
+    ok(&mut machine, Command::ReleaseAll);
+    assert_eq!(machine.state.table, [Entry::FREE; TABLE_SIZE]);
 }
 
 // ---------------------------------------------------------------- 3: numbers handed in
@@ -429,7 +515,7 @@ fn set_header(machine: &mut Machine, position: usize, lsn: u64, header: Header) 
     machine.image[25 + position] = lsn;
     let payload = ring.payload(&machine.image, position as u64, header.length.min(4_000));
     let check = reference::layout::record_check(header.length, header.kind, lsn, payload);
-    machine.image[26 + position] = check;
+    machine.image[26 + position] = CheckWord { check, epoch: 1 }.word();
 }
 
 #[test]
@@ -453,10 +539,11 @@ fn refusal_12_damaged() {
         let changed = but(&machine, |machine| set_header(machine, 10, lsn, good));
         walk_refused(&changed, 12, 3, Some(RecordTest::Lsn));
     }
-    // One bit of the LSN, of the check (its upper half too) or of the payload.
+    // One bit of the LSN, of the check, of the epoch (1 before, as the superline's) or of the payload.
     for (word, bits, test) in [
         (35, 0..64, RecordTest::Lsn),
-        (36, 0..64, RecordTest::Check),
+        (36, 0..32, RecordTest::Check),
+        (36, 32..64, RecordTest::Epoch),
         (37, 0..64, RecordTest::Check),
         (38, 0..32, RecordTest::Check),
     ] {
@@ -479,6 +566,60 @@ fn refusal_12_damaged() {
     // Padding is not looked at.
     let padded = but(&machine, |machine| machine.image[38] |= 1 << 40);
     assert!(calls::walk(&padded.image).is_ok());
+}
+
+/// The three records walked have these epochs under the superline's; the walk ends, or is refused at this LSN by this test.
+#[test]
+fn refusal_12_epochs() {
+    let mut machine = with_all_stages();
+    ok(&mut machine, Command::Recover);
+    ok(&mut machine, Command::Recover);
+    // The superline's is 3 now; record 2 is released.
+    for (epochs, damaged) in [
+        ([0, 0, 0], None),
+        ([0, 1, 1], None),
+        ([0, 0, 3], None),
+        ([1, 2, 3], None),
+        ([3, 3, 3], None),
+        ([1, 0, 1], Some(2)),
+        ([0, 1, 0], Some(3)),
+        ([2, 1, 2], Some(2)),
+        ([1, 3, 2], Some(3)),
+        ([4, 4, 4], Some(1)),
+        ([0, 4, 4], Some(2)),
+        ([3, 3, 4], Some(3)),
+        ([0, MAX_EPOCH, 0], Some(2)),
+    ] {
+        let changed = but(&machine, |machine| {
+            for (word, epoch) in [26, 31, 36].into_iter().zip(epochs) {
+                let old = CheckWord::of_word(machine.image[word]);
+                machine.image[word] = CheckWord { epoch, ..old }.word();
+            }
+        });
+        match damaged {
+            Some(lsn) => walk_refused(&changed, 12, lsn, Some(RecordTest::Epoch)),
+            None => {
+                let (records, end) = calls::walk(&changed.image).unwrap();
+                assert!(records.iter().map(|record| record.epoch).eq(epochs));
+                assert_eq!((end.last_epoch, end.superline_epoch), (epochs[2], 3));
+                let mut recovered = changed;
+                ok(&mut recovered, Command::Recover);
+                let state = &recovered.state;
+                assert!(state.live().map(|lsn| state.entry(lsn).epoch).eq(epochs));
+            }
+        }
+        // A wrong check is found first, and hides a wrong epoch.
+        let lsn = damaged.unwrap_or(3);
+        let word = 21 + 5 * lsn as usize;
+        let both = but(&machine, |machine| {
+            for (word, epoch) in [26, 31, 36].into_iter().zip(epochs) {
+                let old = CheckWord::of_word(machine.image[word]);
+                machine.image[word] = CheckWord { epoch, ..old }.word();
+            }
+            machine.image[word] ^= 1;
+        });
+        walk_refused(&both, 12, lsn, Some(RecordTest::Check));
+    }
 }
 
 #[test]

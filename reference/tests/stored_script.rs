@@ -44,7 +44,7 @@ fn the_stored_lines_have_the_rows_of_the_bench_sheet() {
         "complete ok ",
         "force putoff orders 0 ",
         "force kept orders 3 f 24 5 s 24 281547991154691 f 24 1 ",
-        "words 281547991154691 ",
+        "words 281547991154691 1 6151524604 4407873 0",
         "format ok ",
         "reserve ok 1 0 ",
         "reserve ok 2 4 ",
@@ -90,4 +90,37 @@ fn the_stored_lines_have_the_rows_of_the_bench_sheet() {
         }
         at += nine;
     }
+}
+
+/// Epochs: of the state that completed a record, of one from before slip 8, falling, above the superline's, behind a wrong check.
+#[test]
+fn the_stored_lines_have_the_epochs() {
+    let lines: Vec<&str> = STDOUT.lines().collect();
+    let run = |rows: &[&str]| {
+        let fits = |part: &[&str]| part.iter().zip(rows).all(|(line, row)| line.starts_with(row));
+        assert!(lines.windows(rows.len()).any(fits), "{rows:?}");
+    };
+    run(&[
+        "open ok 0 1 0 0 0 3 = ",
+        "next record 0 1 11 3 1 0 = ",
+        "next record 4 2 12 0 1 2 = ",
+        "next record 7 3 13 0 1 2 = ",
+        "next record 10 4 14 1 1 3 = ",
+        "next end 5 = ",
+        "state 40 0 1 14 5 4 0 3 [1 0 3 11 3 0] [2 4 0 12 3 2] [3 7 0 13 3 2] [4 10 1 14 3 3]",
+    ]);
+    run(&["state 40 0 1 10 4 1 1 2 [1 0 3 11 3 0] [2 4 0 12 1 0] [3 7 0 13 2 2]"]);
+    let falls =
+        ["open ok 7 3 0 0 0 3 = ", "next record 7 3 13 0 1 2 = ", "next refused 12 4 epoch = "];
+    let fine =
+        ["open ok 7 3 0 0 0 3 = ", "next record 7 3 13 0 1 2 = ", "next record 10 4 14 1 1 3 = "];
+    run(&falls);
+    run(&fine);
+    run(&["next refused 12 4 check = "]);
+    run(&[
+        "takeup refused 12 4 check ",
+        "takeup refused 12 4 epoch ",
+        "takeup refused 12 4 epoch ",
+        "takeup ok ",
+    ]);
 }

@@ -9,6 +9,7 @@
  *     6 room place gap, then room words that the rows hold before the call: drivelog_list
  *     7 pos length room place gap, then room bytes that the output holds before the call: drivelog_payload_at
  *     8                                    drivelog_damage
+ *     9 index                              drivelog_epoch
  * Place 0 is a null pointer, of length 0. Place 1 begins `gap` bytes behind a page that nobody may touch, place 2 ends `gap` bytes
  * before one, so that a byte read or written too far ends the program. The image's pages are read-only.
  *
@@ -130,7 +131,7 @@ int main(void)
     struct lent image = {NULL, 0, NULL, 0};
     uint64_t request;
     while (fread(&request, sizeof request, 1, stdin) == 1) {
-        uint64_t index = request == 3 || request == 4 ? word() : 0;
+        uint64_t index = request == 3 || request == 4 || request == 9 ? word() : 0;
         switch (request) {
         case 1: {
             uint64_t bytes = word(), place = word(), gap = word();
@@ -160,6 +161,9 @@ int main(void)
             break;
         case 8:
             printf("damage %" PRId64 "\n", drivelog_damage(image.bytes, image.count));
+            break;
+        case 9:
+            printf("epoch %" PRIu64 " %" PRId64 "\n", index, drivelog_epoch(image.bytes, image.count, index));
             break;
         default:
             fail("no such request");

@@ -23,6 +23,7 @@ static int64_t count(void) { return drivelog_count(image, bytes); }
 static int64_t damage(void) { return drivelog_damage(image, bytes); }
 static int64_t kind(void) { return drivelog_kind(image, bytes, 0); }
 static int64_t lsn(void) { return drivelog_lsn(image, bytes, 0); }
+static int64_t epoch(void) { return drivelog_epoch(image, bytes, 0); }
 static int64_t payload(void) { return drivelog_payload(image, bytes, 0, output, sizeof output); }
 static int64_t list(void) { return drivelog_list(image, bytes, rows, sizeof rows / sizeof rows[0]); }
 static int64_t payload_at(void) { return drivelog_payload_at(image, bytes, rows[3], rows[2], output, sizeof output); }
@@ -61,8 +62,8 @@ static size_t used_by(struct call *call)
 
 int main(int argc, char **argv)
 {
-    struct call calls[] = {{"count", count, 0}, {"damage", damage, 0}, {"kind", kind, 0}, {"lsn", lsn, 0}, {"payload", payload, 0}, {"list", list, 0},
-                           {"payload_at", payload_at, 0}};
+    struct call calls[] = {{"count", count, 0}, {"damage", damage, 0}, {"kind", kind, 0}, {"lsn", lsn, 0}, {"epoch", epoch, 0},
+                           {"payload", payload, 0}, {"list", list, 0}, {"payload_at", payload_at, 0}};
     struct call idle = {"nothing", nothing, 0};
     FILE *file = argc == 3 ? fopen(argv[2], "rb") : NULL;
     if (file == NULL) {

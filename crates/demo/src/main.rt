@@ -291,6 +291,8 @@ fn first_cursor(image: &[u64; WORDS]) -> Cursor {
             lsn: 0,
             used: 0,
             count: 0,
+            last_epoch: 0,
+            superline_epoch: 0,
         },
     }
 }

@@ -88,7 +88,7 @@ fn keep(outcome: Outcome, numbers: &mut [u64; NUMBERS]) -> Written {
 // Makes a writing call on the state that is kept.
 fn make(
     number: u64,
-    args: &[u64; 5],
+    args: &[u64; 6],
     numbers: &mut [u64; NUMBERS],
     image: &mut [u64],
     ops: &mut [u64],
@@ -102,7 +102,7 @@ fn make(
 // Makes a writing call and prints its line.
 pub fn write(
     number: u64,
-    args: &[u64; 5],
+    args: &[u64; 6],
     numbers: &mut [u64; NUMBERS],
     image: &mut [u64],
     ops: &mut [u64],
@@ -122,8 +122,8 @@ const OUTPUT_FILL: u8 = 238;
 // Makes a reading call. Open and next change the cursor that is kept; a fetch puts its bytes into `output`.
 fn look(
     number: u64,
-    args: &[u64; 5],
-    cursor: &mut [u64; 4],
+    args: &[u64; 6],
+    cursor: &mut [u64; 6],
     image: &[u64],
     output: &mut [u8],
 ) -> Said {
@@ -137,6 +137,8 @@ fn look(
             lsn: cursor[1],
             used: cursor[2],
             count: cursor[3],
+            last_epoch: cursor[4],
+            superline_epoch: cursor[5],
         };
         let step = drivelog::next(image, c);
         return said::of_step(step, cursor);
@@ -149,9 +151,9 @@ fn look(
 // Makes a reading call and prints its line, with the digest of the output behind a fetch.
 pub fn read(
     number: u64,
-    args: &[u64; 5],
+    args: &[u64; 6],
     numbers: &[u64; NUMBERS],
-    cursor: &mut [u64; 4],
+    cursor: &mut [u64; 6],
     image: &[u64],
     ops: &[u64],
     output: &mut [u8],

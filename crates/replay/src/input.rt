@@ -24,25 +24,25 @@ fn read_bytes(bytes: &mut [u8], count: u64) -> bool {
     got == size
 }
 
-// Reads `count` words, five at most, and tells whether all were there. The others become 0. The remainder is the count
+// Reads `count` words, six at most, and tells whether all were there. The others become 0. The remainder is the count
 // itself, and keeps the product from wrapping.
-fn read_words(words: &mut [u64; 5], count: u64) -> bool {
-    let mut bytes = [0u8; 40];
+fn read_words(words: &mut [u64; 6], count: u64) -> bool {
+    let mut bytes = [0u8; 48];
     let whole = read_bytes(&mut bytes, 8 * (count % 8));
     words_from(&bytes, words);
     whole
 }
 
-// How many arguments each command has, by its number; 6 where there is no such command.
-const ARGUMENTS: [u8; 32] = *b"62222546660231210066003666666620";
+// How many arguments each command has, by its number; 7 where there is no such command.
+const ARGUMENTS: [u8; 32] = *b"72222667770231210077003777777720";
 
-// How many arguments a command has; 6 where there is no such command. The digits' codes leave their values modulo 8.
+// How many arguments a command has; 7 where there is no such command. The digits' codes leave their values modulo 8.
 fn argument_count(number: u64) -> u64 {
     if number < 32 {
         let digit = ARGUMENTS[number as usize];
         return (digit % 8) as u64;
     }
-    6
+    7
 }
 
 // Whether a command exceeds a limit: its count of words, or of bytes.
@@ -62,7 +62,7 @@ fn bad(number: u64) -> u64 {
 
 // Reads a command's number and its arguments; those that it does not have become 0. One that the end of the input cuts
 // off counts as the end, which is number 0.
-fn read_call(args: &mut [u64; 5]) -> u64 {
+fn read_call(args: &mut [u64; 6]) -> u64 {
     if !read_words(args, 1) {
         return 0;
     }
@@ -71,7 +71,7 @@ fn read_call(args: &mut [u64; 5]) -> u64 {
         return 0;
     }
     let count = argument_count(number);
-    if 5 < count {
+    if 6 < count {
         return bad(number);
     }
     if !read_words(args, count) {
@@ -84,7 +84,7 @@ fn read_call(args: &mut [u64; 5]) -> u64 {
 }
 
 // Reads the next command: its number, 0 at the end of the script, its arguments, and the bytes behind a copy.
-pub fn read_command(args: &mut [u64; 5], bytes: &mut [u8]) -> u64 {
+pub fn read_command(args: &mut [u64; 6], bytes: &mut [u8]) -> u64 {
     let number = read_call(args);
     if number == 12 {
         if !read_bytes(bytes, args[2]) {

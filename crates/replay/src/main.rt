@@ -22,9 +22,9 @@ ghost use lib.ListN.{length};
 // Carries a command out on the used words. `bytes` are those of a copy or of a fetch.
 fn act(
     number: u64,
-    args: &[u64; 5],
+    args: &[u64; 6],
     numbers: &mut [u64; NUMBERS],
-    cursor: &mut [u64; 4],
+    cursor: &mut [u64; 6],
     image: &mut [u64],
     ops: &mut [u64],
     bytes: &mut [u8],
@@ -63,9 +63,9 @@ fn limited(n: u64, limit: usize) -> usize
 // its third argument, are within the limit.
 fn carry_out(
     number: u64,
-    args: &[u64; 5],
+    args: &[u64; 6],
     numbers: &mut [u64; NUMBERS],
-    cursor: &mut [u64; 4],
+    cursor: &mut [u64; 6],
     image: &mut [u64],
     n: usize,
     ops: &mut [u64],
@@ -93,8 +93,8 @@ fn carry_out(
 // no run uses up.
 fn run(image: &mut [u64], ops: &mut [u64], bytes: &mut [u8], out: &mut [u8; TEXT_SIZE]) {
     let mut numbers = [0u64; NUMBERS];
-    let mut cursor = [0u64; 4];
-    let mut args = [0u64; 5];
+    let mut cursor = [0u64; 6];
+    let mut args = [0u64; 6];
     let mut n: usize = 0;
     let mut t: usize = 0;
     let mut turns: u64 = 18446744073709551615;

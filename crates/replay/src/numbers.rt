@@ -1,5 +1,5 @@
-// The state as numbers in a lent array, in the order of docs/REPLAY.md: its eight fields, then place, length, kind and
-// stage of each table entry. Between the calls replay keeps them and no State; so a script sets, prints and digests
+// The state as numbers in a lent array, in the order of docs/REPLAY.md: its eight fields, then place, length, kind,
+// stage and epoch of each table entry. Between the calls replay keeps them and no State; so a script sets, prints and digests
 // plain numbers.
 use drivelog::Entry;
 use drivelog::Stage;
@@ -13,7 +13,7 @@ ghost use Rattle.state.specs.Table.{tableSize};
 // The numbers before those of the entries, and all of them.
 pub const FIELDS: usize = 8;
 
-pub const NUMBERS: usize = FIELDS + 4 * TABLE_SIZE;
+pub const NUMBERS: usize = FIELDS + 5 * TABLE_SIZE;
 
 // The stage of a number; any that is none's is free.
 fn stage_of(number: u64) -> Stage {
@@ -30,13 +30,14 @@ fn stage_of(number: u64) -> Stage {
 fn entry_of(numbers: &[u64; NUMBERS], i: usize) -> Entry
     requires { ⌜ i < tableSize ⌝ }
 {
-    let k = FIELDS + 4 * i;
+    let k = FIELDS + 5 * i;
     let stage = stage_of(numbers[k + 3]);
     Entry {
         pos: (numbers[k] % 65536) as u16,
         length: (numbers[k + 1] % 65536) as u16,
         kind: (numbers[k + 2] % 65536) as u16,
         stage,
+        epoch: (numbers[k + 4] % 4294967296) as u32,
     }
 }
 
@@ -61,7 +62,7 @@ pub fn state_of(numbers: &[u64; NUMBERS]) -> State {
     }
 }
 
-// Puts the four numbers of entry `i`.
+// Puts the five numbers of entry `i`.
 pub fn put_entry(
     numbers: &mut [u64; NUMBERS],
     i: usize,
@@ -69,14 +70,16 @@ pub fn put_entry(
     length: u64,
     kind: u64,
     stage: u64,
+    epoch: u64,
 )
     requires { ⌜ i < tableSize ⌝ }
 {
-    let k = FIELDS + 4 * i;
+    let k = FIELDS + 5 * i;
     numbers[k] = pos;
     numbers[k + 1] = length;
     numbers[k + 2] = kind;
     numbers[k + 3] = stage;
+    numbers[k + 4] = epoch;
 }
 
 // Puts an entry.
@@ -91,6 +94,7 @@ fn save_entry(numbers: &mut [u64; NUMBERS], i: usize, e: Entry)
         e.length as u64,
         e.kind as u64,
         stage_number(stage),
+        e.epoch as u64,
     );
 }
 

@@ -33,7 +33,7 @@ pub fn put_answer(out: &mut [u8; TEXT_SIZE], number: u64, said: Said) -> usize
     if said.damage == 0 {
         return end;
     }
-    let tests = b"- mark kind length fit LSN check";
+    let tests = b"- mark kind length fit LSN check epoch";
     let space = put_byte(out, end, b' ');
     put_word(out, space, tests, said.damage)
 }
@@ -94,18 +94,19 @@ pub fn print_digests(
     end_line(out, end);
 }
 
-// Puts the numbers of a table entry unless it is free: its index, its three numbers and its stage's.
+// Puts the numbers of a table entry unless it is free: its index, its three numbers, its stage's and its
+// epoch.
 fn put_entry(out: &mut [u8; TEXT_SIZE], at: usize, i: usize, numbers: &[u64]) -> usize
-    requires { ⌜ Inside at × (8 + 4 * i + 4 ≤ length (now numbers)) ⌝ }
+    requires { ⌜ Inside at × (8 + 5 * i + 5 ≤ length (now numbers)) ⌝ }
     ensures { λ r. ⌜ Inside r ⌝ }
 {
-    let k = FIELDS + 4 * i;
+    let k = FIELDS + 5 * i;
     if numbers[k + 3] == 0 {
         return at;
     }
     let blank = put_byte(out, at, b' ');
     let index = put_number(out, blank, b'[', i as u64);
-    let next = put_numbers(out, index, &numbers[k..], 4);
+    let next = put_numbers(out, index, &numbers[k..], 5);
     put_byte(out, next, b']')
 }
 

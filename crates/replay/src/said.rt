@@ -24,7 +24,7 @@ pub const REFUSED: u64 = 5;
 pub struct Said {
     pub word: u64,
     pub count: u64,
-    pub numbers: [u64; 5],
+    pub numbers: [u64; 6],
     pub damage: u64,
 }
 
@@ -33,7 +33,7 @@ fn short(word: u64, count: u64, first: u64, second: u64) -> Said {
     Said {
         word,
         count,
-        numbers: [first, second, 0, 0, 0],
+        numbers: [first, second, 0, 0, 0, 0],
         damage: 0,
     }
 }
@@ -45,7 +45,7 @@ fn refused(why: Refusal) -> Said {
     Said {
         word: REFUSED,
         count: 2,
-        numbers: [number, detail, 0, 0, 0],
+        numbers: [number, detail, 0, 0, 0, 0],
         damage: drivelog::damage_of(why),
     }
 }
@@ -62,22 +62,31 @@ pub fn of_answer(answer: Answer) -> Said {
 }
 
 // Puts a cursor's numbers into the one that replay keeps.
-fn save_cursor(cursor: &mut [u64; 4], c: Cursor) {
+fn save_cursor(cursor: &mut [u64; 6], c: Cursor) {
     cursor[0] = c.pos;
     cursor[1] = c.lsn;
     cursor[2] = c.used;
     cursor[3] = c.count;
+    cursor[4] = c.last_epoch;
+    cursor[5] = c.superline_epoch;
 }
 
 // The answer of open. Its cursor is kept.
-pub fn of_opened(opened: Opened, cursor: &mut [u64; 4]) -> Said {
+pub fn of_opened(opened: Opened, cursor: &mut [u64; 6]) -> Said {
     match opened {
         Opened::At(c) => {
             save_cursor(cursor, c);
             Said {
                 word: OK,
-                count: 4,
-                numbers: [c.pos, c.lsn, c.used, c.count, 0],
+                count: 6,
+                numbers: [
+                    c.pos,
+                    c.lsn,
+                    c.used,
+                    c.count,
+                    c.last_epoch,
+                    c.superline_epoch,
+                ],
                 damage: 0,
             }
         }
@@ -86,14 +95,14 @@ pub fn of_opened(opened: Opened, cursor: &mut [u64; 4]) -> Said {
 }
 
 // The answer of next. The cursor behind a record is kept.
-pub fn of_step(step: Step, cursor: &mut [u64; 4]) -> Said {
+pub fn of_step(step: Step, cursor: &mut [u64; 6]) -> Said {
     match step {
         Step::Record(f, behind) => {
             save_cursor(cursor, behind);
             Said {
                 word: RECORD,
-                count: 5,
-                numbers: [f.pos, f.lsn, f.kind, f.length, f.mark],
+                count: 6,
+                numbers: [f.pos, f.lsn, f.kind, f.length, f.mark, f.epoch],
                 damage: 0,
             }
         }

@@ -50,7 +50,7 @@ fn set_field(numbers: &mut [u64; NUMBERS], field: u64, value: u64) {
 }
 
 // A table entry becomes what the arguments say. A number that is no stage's is free.
-fn set_entry(numbers: &mut [u64; NUMBERS], args: &[u64; 5]) {
+fn set_entry(numbers: &mut [u64; NUMBERS], args: &[u64; 6]) {
     let i = (args[0] % TABLE_SIZE as u64) as usize;
     let stage = if args[4] < 5 { args[4] } else { 0 };
     put_entry(
@@ -60,15 +60,16 @@ fn set_entry(numbers: &mut [u64; NUMBERS], args: &[u64; 5]) {
         args[2] % 65536,
         args[3] % 65536,
         stage,
+        args[5] % 4294967296,
     );
 }
 
 // The commands 2 and 4 to 6: a word of the image, a state field, a table entry, the cursor.
 pub fn set(
     number: u64,
-    args: &[u64; 5],
+    args: &[u64; 6],
     numbers: &mut [u64; NUMBERS],
-    cursor: &mut [u64; 4],
+    cursor: &mut [u64; 6],
     image: &mut [u64],
 ) {
     if number == 2 {
@@ -86,5 +87,7 @@ pub fn set(
         cursor[1] = args[1];
         cursor[2] = args[2];
         cursor[3] = args[3];
+        cursor[4] = args[4];
+        cursor[5] = args[5];
     }
 }

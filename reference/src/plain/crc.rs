@@ -58,19 +58,19 @@ impl Crc {
     }
 
     #[inline]
-    pub fn finish(self) -> u64 {
-        u64::from(!self.0)
+    pub fn finish(self) -> u32 {
+        !self.0
     }
 }
 
 /// The CRC-32 of words, as bytes.
 pub fn crc32_of_words(words: &[u64]) -> u64 {
-    words.iter().fold(Crc::START, |crc, &word| crc.word(word)).finish()
+    words.iter().fold(Crc::START, |crc, &word| crc.word(word)).finish().into()
 }
 
 pub fn crc32_of_bytes(bytes: &[u8]) -> u64 {
     let (words, rest) = bytes.as_chunks();
     let crc = words.iter().fold(Crc::START, |crc, word| crc.word(u64::from_le_bytes(*word)));
     let last = rest.iter().rev().fold(0, |word, &byte| word << 8 | u64::from(byte));
-    crc.low_bytes(last, rest.len()).finish()
+    crc.low_bytes(last, rest.len()).finish().into()
 }

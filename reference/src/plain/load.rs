@@ -63,7 +63,8 @@ pub fn load(text: &[u8], image: &mut [u64; IMAGE_WORDS]) -> Result<(), Refusal> 
         let header = length | kind << 32;
         numbers[0] = header | MARK_COMMITTED << 48;
         numbers[1] = lsn;
-        numbers[2] = record_check(header, lsn, (payload, &[]));
+        // The upper half is epoch 0.
+        numbers[2] = record_check(header, lsn, (payload, &[])).into();
         if count == 0 {
             head_lsn = lsn;
         }

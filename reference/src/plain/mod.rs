@@ -3,7 +3,7 @@
 //! Each call makes the tests of [`crate::calls`] in their order, gives the same answer and leaves the same words, ops and state;
 //! tests/plain.rs holds the two together. It differs in how: the state is changed in place and the ops go straight into the op
 //! buffer once no refusal is left, nothing is allocated, the CRC goes by eight tables, the entries that have to be free are tested in
-//! two runs by wide loads, and the ring is stepped through without a division.
+//! two runs, four at a time by wide loads, and the ring is stepped through without a division.
 
 mod calls;
 mod crc;
