@@ -35,13 +35,22 @@ extern "C" {
 /* Why a call declines. A call returns the number with a minus sign, as -DRIVELOG_DAMAGED. The tests run in this order, and the
  * first that fails decides; while the log is read, DRIVELOG_TOO_MANY is tested before DRIVELOG_DAMAGED at each record. */
 enum drivelog_refusal {
-    DRIVELOG_IMAGE_SIZE = 1,      /* bytes is not a multiple of 8, or not 320 to 65,536 */
-    DRIVELOG_ARGUMENT = 3,        /* drivelog_payload_at only: no such position, or a length above 1,024 */
+    DRIVELOG_IMAGE_SIZE = 1,      /* the image has not 40 to 8,192 words (320 to 65,536 bytes, a multiple of 8), or not the state's size */
+    DRIVELOG_UNSOUND = 2,         /* the state, or the cursor, is none that a call left, or has not its count of words */
+    DRIVELOG_ARGUMENT = 3,        /* a kind, length, position or frequency is out of its range */
     DRIVELOG_SUPERLINE = 4,       /* the words that say where the log begins are wrong: no log, or one of another size */
-    DRIVELOG_TOO_MANY = 13,       /* more than 256 records before the end */
-    DRIVELOG_DAMAGED = 12,        /* a record is damaged; the whole list is refused, also what stands before the damage */
+    DRIVELOG_NOT_LIVE = 5,        /* no live record has this LSN */
+    DRIVELOG_WRONG_STAGE = 6,     /* the record is not open, as copy and complete need it, or not committed, as release does */
+    DRIVELOG_BEYOND_LENGTH = 7,   /* the bytes do not fit the record from the offset on */
+    DRIVELOG_NUMBERS_SPENT = 8,   /* no LSN is left to reserve, or no epoch to recover with */
+    DRIVELOG_TABLE_FULL = 9,      /* 256 records are live */
+    DRIVELOG_NO_ROOM = 10,        /* the log has no room for the record */
+    DRIVELOG_UNFINISHED = 11,     /* a record is still open (force), or not committed (release all); detail: its LSN */
+    DRIVELOG_TOO_MANY = 13,       /* more than 256 records before the end; detail: the LSN of the first too many */
+    DRIVELOG_DAMAGED = 12,        /* a record is damaged; the whole list is refused, also what stands before the damage; detail: its LSN */
     DRIVELOG_NO_SUCH_RECORD = 16, /* index is not below the number of listed records */
-    DRIVELOG_OUTPUT_SHORT = 14    /* the payload or the rows are longer than room */
+    DRIVELOG_OUTPUT_SHORT = 14,   /* the output, the rows, the reply, the cursor or the record have too little room */
+    DRIVELOG_OPS_SHORT = 15       /* the op buffer is too short; detail: the words needed */
 };
 
 enum drivelog_limit {
@@ -173,6 +182,228 @@ int64_t drivelog_payload_at(const uint8_t *image, size_t bytes, uint64_t pos, ui
 
          uint8_t payload[DRIVELOG_MAX_PAYLOAD];
          int64_t length = drivelog_payload_at(image, bytes, rows[4 * i + 3], rows[4 * i + 2], payload, sizeof payload);
+*/
+
+/* The log itself -----------------------------------------------------------------------------------------------------------------
+ *
+ * The calls below write the log and read it record by record, as document 01 defines them (README.md has an example with a power
+ * failure). They do not touch the memory module: a call stores into the working image and fills the op buffer, three words an op,
+ * (1, word, value) for a store and (2, first word, count) for a flush. The program then carries the ops out on the module, in turn, all
+ * of them before the next call:
+ *
+ *     for (uint64_t i = 0; i < reply[DRIVELOG_REPLY_OPS]; i++)
+ *         if (ops[3 * i] == 1)
+ *             store(ops[3 * i + 1], ops[3 * i + 2]);
+ *         else
+ *             flush(ops[3 * i + 1], ops[3 * i + 2]);
+ *
+ * State: DRIVELOG_STATE_WORDS words that the program keeps and lends to each call. drivelog_format or drivelog_recover fills them, and
+ * nobody else need know what they hold. Words that no call left are no state: the calls decline them with DRIVELOG_UNSOUND, whatever
+ * they hold.
+ *
+ * Reply: four words or more that each call writes, in the order of the enum below, whether it is granted or declined. What stands
+ * behind them stays.
+ *
+ * A call returns 0 or more, or minus the number of a refusal. A call that declines alters no word that it is lent but the reply's. A
+ * reply of fewer than four words is declined before all else with DRIVELOG_OUTPUT_SHORT, and then nothing is altered.
+ *
+ * Every call answers for every input, as crates/ccalls/specs defines it over crates/journal/specs; that is proved, and so is what a
+ * crash leaves of a log that is written so (docs/PROOF.md). Counts are of words, not bytes; an image's words are little-endian in bytes.
+ *
+ * Memory: each pointer is to as many words as the count behind it says, `bytes` to `count` bytes. They need the alignment of their
+ * type. Where the count is 0 the pointer is not followed and may be null. What is written may overlap nothing else that is lent to
+ * the same call. A call keeps nothing and allocates nothing, so calls with different words may run in several threads at once.
+ *
+ * Stack: a call takes at most 12,288 bytes (12 KB).
+ */
+
+enum drivelog_reply {
+    DRIVELOG_REPLY_NUMBER = 0, /* the refusal's number, 0 if granted */
+    DRIVELOG_REPLY_DETAIL = 1, /* its detail, 0 if it has none */
+    DRIVELOG_REPLY_OPS = 2,    /* how many ops the call put into the op buffer, 0 if it declines */
+    DRIVELOG_REPLY_SECOND = 3  /* a second value: the ring position (reserve), the end's LSN (next), the test that a damaged record fails
+                                  (enum drivelog_test, with DRIVELOG_DAMAGED), else 0 */
+};
+
+enum drivelog_words {
+    DRIVELOG_STATE_WORDS = 520,
+    DRIVELOG_REPLY_WORDS = 4,
+    DRIVELOG_CURSOR_WORDS = 6,
+    DRIVELOG_RECORD_WORDS = 6,
+    DRIVELOG_MAX_OPS = 514,                   /* ops that one call puts at most: a force of 256 records that goes round */
+    DRIVELOG_OPS_WORDS = 3 * DRIVELOG_MAX_OPS /* words of an op buffer that is always enough */
+};
+
+/* The words of a record that drivelog_next writes. */
+enum drivelog_record {
+    DRIVELOG_RECORD_POS = 0,    /* its ring position, for drivelog_fetch */
+    DRIVELOG_RECORD_LSN = 1,
+    DRIVELOG_RECORD_KIND = 2,
+    DRIVELOG_RECORD_LENGTH = 3, /* bytes of its payload */
+    DRIVELOG_RECORD_MARK = 4,   /* 1 committed, 2 released */
+    DRIVELOG_RECORD_EPOCH = 5   /* 0 */
+};
+
+uint64_t drivelog_state_words(void);
+/*
+     The words of a state: DRIVELOG_STATE_WORDS of the archive that is linked.
+*/
+
+int64_t drivelog_format(uint64_t *state, size_t state_words, uint64_t *image, size_t image_words, uint64_t *ops, size_t ops_words,
+                        uint64_t *reply, size_t reply_words);
+/*
+     Makes an empty log in an image of 40 to 8,192 words, whatever image and state held. 11 ops.
+
+     Returns 0, or -DRIVELOG_IMAGE_SIZE, -DRIVELOG_UNSOUND (state_words is not DRIVELOG_STATE_WORDS) or -DRIVELOG_OPS_SHORT.
+
+     Example, which is kept up below:
+
+         uint64_t state[DRIVELOG_STATE_WORDS], image[2048], ops[DRIVELOG_OPS_WORDS], reply[DRIVELOG_REPLY_WORDS];
+         int64_t done = drivelog_format(state, DRIVELOG_STATE_WORDS, image, 2048, ops, DRIVELOG_OPS_WORDS, reply, 4);
+         carry_out(ops, reply[DRIVELOG_REPLY_OPS]);
+*/
+
+int64_t drivelog_reserve(uint64_t *state, size_t state_words, uint64_t *image, size_t image_words, uint64_t *ops, size_t ops_words,
+                         uint64_t kind, uint64_t length, uint64_t *reply, size_t reply_words);
+/*
+     Room for a record of a kind, 1 to 65,535, and a length, 0 to 1,024 bytes, behind the last one. The record is open, its payload
+   zeros. One store for each word of the record and one behind it, no flush.
+
+     Returns its LSN, 1 or more, or -DRIVELOG_IMAGE_SIZE, -DRIVELOG_UNSOUND, -DRIVELOG_ARGUMENT, -DRIVELOG_NUMBERS_SPENT,
+   -DRIVELOG_TABLE_FULL, -DRIVELOG_NO_ROOM or -DRIVELOG_OPS_SHORT. The second value is its ring position.
+
+     Example:
+
+         int64_t lsn = drivelog_reserve(state, DRIVELOG_STATE_WORDS, image, 2048, ops, DRIVELOG_OPS_WORDS, 17, sizeof event, reply, 4);
+         carry_out(ops, reply[DRIVELOG_REPLY_OPS]);
+*/
+
+int64_t drivelog_copy(uint64_t *state, size_t state_words, uint64_t *image, size_t image_words, uint64_t *ops, size_t ops_words,
+                      uint64_t lsn, uint64_t offset, const uint8_t *bytes, size_t count, uint64_t *reply, size_t reply_words);
+/*
+     Bytes into an open record's payload, from an offset on. One store for each word of the payload that they touch.
+
+     Returns 0, or -DRIVELOG_IMAGE_SIZE, -DRIVELOG_UNSOUND, -DRIVELOG_NOT_LIVE, -DRIVELOG_WRONG_STAGE, -DRIVELOG_BEYOND_LENGTH or
+   -DRIVELOG_OPS_SHORT.
+
+     Example:
+
+         drivelog_copy(state, DRIVELOG_STATE_WORDS, image, 2048, ops, DRIVELOG_OPS_WORDS, (uint64_t)lsn, 0, event, sizeof event, reply, 4);
+         carry_out(ops, reply[DRIVELOG_REPLY_OPS]);
+*/
+
+int64_t drivelog_complete(uint64_t *state, size_t state_words, uint64_t *image, size_t image_words, uint64_t *ops, size_t ops_words,
+                          uint64_t lsn, uint64_t *reply, size_t reply_words);
+/*
+     An open record's payload is all there: its check is stored. 1 op.
+
+     Returns 0, or -DRIVELOG_IMAGE_SIZE, -DRIVELOG_UNSOUND, -DRIVELOG_NOT_LIVE, -DRIVELOG_WRONG_STAGE or -DRIVELOG_OPS_SHORT.
+
+     Example:
+
+         drivelog_complete(state, DRIVELOG_STATE_WORDS, image, 2048, ops, DRIVELOG_OPS_WORDS, (uint64_t)lsn, reply, 4);
+         carry_out(ops, reply[DRIVELOG_REPLY_OPS]);
+*/
+
+int64_t drivelog_force(uint64_t *state, size_t state_words, uint64_t *image, size_t image_words, uint64_t *ops, size_t ops_words,
+                       uint64_t lsn, uint64_t frequency, uint64_t *reply, size_t reply_words);
+/*
+     Makes every record up to an LSN durable: once the ops are carried out they survive a power failure. With a frequency above 1 the
+   force is deferred, with no ops, as long as no multiple of it lies among the LSNs not yet committed up to this one.
+
+     Returns 1 if they are durable, 0 if that is deferred, or -DRIVELOG_IMAGE_SIZE, -DRIVELOG_UNSOUND, -DRIVELOG_ARGUMENT (frequency 0),
+   -DRIVELOG_NOT_LIVE, -DRIVELOG_UNFINISHED (the detail is the lowest LSN that is still open) or -DRIVELOG_OPS_SHORT.
+
+     Example:
+
+         if (drivelog_force(state, DRIVELOG_STATE_WORDS, image, 2048, ops, DRIVELOG_OPS_WORDS, (uint64_t)lsn, 1, reply, 4) == 1)
+             carry_out(ops, reply[DRIVELOG_REPLY_OPS]);
+*/
+
+int64_t drivelog_release(uint64_t *state, size_t state_words, uint64_t *image, size_t image_words, uint64_t *ops, size_t ops_words,
+                         uint64_t lsn, uint64_t *reply, size_t reply_words);
+/*
+     Gives a committed record back. 1 op, or 10 for the oldest live record, which moves the log's head on.
+
+     Returns 0, or -DRIVELOG_IMAGE_SIZE, -DRIVELOG_UNSOUND, -DRIVELOG_NOT_LIVE, -DRIVELOG_WRONG_STAGE or -DRIVELOG_OPS_SHORT.
+
+     Example:
+
+         drivelog_release(state, DRIVELOG_STATE_WORDS, image, 2048, ops, DRIVELOG_OPS_WORDS, (uint64_t)lsn, reply, 4);
+         carry_out(ops, reply[DRIVELOG_REPLY_OPS]);
+*/
+
+int64_t drivelog_release_all(uint64_t *state, size_t state_words, uint64_t *image, size_t image_words, uint64_t *ops, size_t ops_words,
+                             uint64_t *reply, size_t reply_words);
+/*
+     Gives every record back. 9 ops, or none where nothing is live.
+
+     Returns 0, or -DRIVELOG_IMAGE_SIZE, -DRIVELOG_UNSOUND, -DRIVELOG_UNFINISHED (the detail is the lowest LSN that is not committed) or
+   -DRIVELOG_OPS_SHORT.
+
+     Example:
+
+         drivelog_release_all(state, DRIVELOG_STATE_WORDS, image, 2048, ops, DRIVELOG_OPS_WORDS, reply, 4);
+         carry_out(ops, reply[DRIVELOG_REPLY_OPS]);
+*/
+
+int64_t drivelog_recover(uint64_t *state, size_t state_words, uint64_t *image, size_t image_words, uint64_t *ops, size_t ops_words,
+                         uint64_t *reply, size_t reply_words);
+/*
+     The state of an image that a power failure left, or that was carried over, whatever the state's words held. 11 ops.
+
+     Returns 0, or -DRIVELOG_IMAGE_SIZE, -DRIVELOG_UNSOUND (state_words is not DRIVELOG_STATE_WORDS), -DRIVELOG_SUPERLINE,
+   -DRIVELOG_NUMBERS_SPENT, -DRIVELOG_TOO_MANY, -DRIVELOG_DAMAGED or -DRIVELOG_OPS_SHORT.
+
+     Example, with the module's words in the image:
+
+         if (drivelog_recover(state, DRIVELOG_STATE_WORDS, image, 2048, ops, DRIVELOG_OPS_WORDS, reply, 4) == 0)
+             carry_out(ops, reply[DRIVELOG_REPLY_OPS]);
+*/
+
+int64_t drivelog_open(const uint64_t *image, size_t image_words, uint64_t *cursor, size_t cursor_words, uint64_t *reply,
+                      size_t reply_words);
+/*
+     A cursor at the oldest record of an image, in the first DRIVELOG_CURSOR_WORDS words lent for it. What stands behind them stays.
+
+     Returns 0, or -DRIVELOG_OUTPUT_SHORT (fewer words lent for the cursor), -DRIVELOG_IMAGE_SIZE or -DRIVELOG_SUPERLINE.
+
+     Example:
+
+         uint64_t cursor[DRIVELOG_CURSOR_WORDS];
+         int64_t opened = drivelog_open(image, 2048, cursor, DRIVELOG_CURSOR_WORDS, reply, 4);
+*/
+
+int64_t drivelog_next(const uint64_t *image, size_t image_words, uint64_t *cursor, size_t cursor_words, uint64_t *record,
+                      size_t record_words, uint64_t *reply, size_t reply_words);
+/*
+     The record at a cursor, in the first DRIVELOG_RECORD_WORDS words lent for it, and the cursor moved behind it. Released records are
+   given too: their mark is 2.
+
+     Returns 1 with a record; 0 at the end, whose LSN is the second value, and then cursor and record stay; or -DRIVELOG_OUTPUT_SHORT
+   (fewer words lent for cursor or record), -DRIVELOG_IMAGE_SIZE, -DRIVELOG_UNSOUND (no cursor that open or next left),
+   -DRIVELOG_TOO_MANY or -DRIVELOG_DAMAGED, whose second value is the test that the record fails.
+
+     Example:
+
+         uint64_t record[DRIVELOG_RECORD_WORDS];
+         while (drivelog_next(image, 2048, cursor, DRIVELOG_CURSOR_WORDS, record, DRIVELOG_RECORD_WORDS, reply, 4) == 1)
+             printf("%llu\n", (unsigned long long)record[DRIVELOG_RECORD_LSN]);
+*/
+
+int64_t drivelog_fetch(const uint64_t *image, size_t image_words, uint64_t pos, uint64_t length, uint8_t *output, size_t room,
+                       uint64_t *reply, size_t reply_words);
+/*
+     Copies the payload of the record of `length` bytes at `pos` to the front of the output, which has room for `room` bytes: for a
+   record that drivelog_next gave of the same image. What stands in the output behind the payload stays as it is.
+
+     Returns the length, or -DRIVELOG_IMAGE_SIZE, -DRIVELOG_ARGUMENT, or -DRIVELOG_OUTPUT_SHORT if length is more than room.
+
+     Example:
+
+         uint8_t payload[DRIVELOG_MAX_PAYLOAD];
+         int64_t length = drivelog_fetch(image, 2048, record[DRIVELOG_RECORD_POS], record[DRIVELOG_RECORD_LENGTH], payload, sizeof payload,
+                                         reply, 4);
 */
 
 #ifdef __cplusplus

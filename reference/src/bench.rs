@@ -1,4 +1,4 @@
-//! How long the calls take: the proved programs beside plain Rust, zlib, a byte table in C and libpmemlog, all in one run.
+//! How long the calls take: the proved programs beside plain Rust, the calls for C, zlib, a byte table in C and libpmemlog, in one run.
 //!
 //! Each program reads five words (job, bytes, live, count, words) and prints the microseconds of CPU time that its timed part took and
 //! a digest of what it left. The programs of a case take turns, round by round, and have to leave the same; what counts is the median
@@ -40,9 +40,12 @@ pub struct Programs<'a> {
     pub proved: &'a Path,
     pub plain: &'a Path,
     pub crc: &'a Path,
-    /// These two need not be there.
+    /// These need not be there.
     pub pmemlog: Option<&'a Path>,
     pub calls: Option<&'a Path>,
+    /// An append through the calls for C, and the same with the driver that stands on libpmem.
+    pub append: Option<&'a Path>,
+    pub append_pmem: Option<&'a Path>,
 }
 
 pub enum Failure {
@@ -288,7 +291,8 @@ pub fn bench(programs: &Programs, rounds: usize, out: &mut impl Write) -> Result
         let built = "it is built where target/lib/libdrivelog.a is, which `make lib` writes";
         skipped("the calls for C", programs.calls, built, out)?;
     }
-    pmemlog(programs.pmemlog, rounds, out)
+    boundary(programs, rounds, out)?;
+    on_a_module(programs, rounds, out)
 }
 
 /// The medians of each case's programs.
@@ -434,21 +438,69 @@ fn skipped(
     Ok(())
 }
 
-fn pmemlog(path: Option<&Path>, rounds: usize, out: &mut impl Write) -> Result<(), Failure> {
-    let Some(path) = path.filter(|path| path.exists()) else {
-        return skipped("libpmemlog", path, "it is built where libpmemlog is", out);
+/// An append of 64 bytes through the calls for C beside the proved calls.
+fn boundary(programs: &Programs, rounds: usize, out: &mut impl Write) -> Result<(), Failure> {
+    let Some(append) = programs.append.filter(|path| path.exists()) else {
+        let built = "it is built where target/lib/libdrivelog.a is, which `make lib` writes";
+        return skipped("append through the calls for C", programs.append, built, out);
     };
-    let by_msync = Program::new(path);
-    let by_lines = Program { variables: &[("PMEM_IS_PMEM_FORCE", "1")], ..by_msync };
-    let programs = [by_msync, by_lines];
-    let cases = [64, 1_024]
-        .map(|bytes| (Case { job: APPEND, bytes, live: 0, words: LARGEST }, &programs[..]));
+    let pair = [Program::new(append), Program::new(programs.proved)];
+    let cases = [0, 32, 60, 200, 250]
+        .map(|live| (Case { job: APPEND, bytes: 64, live, words: LARGEST }, &pair[..]));
     let mut table = Table::new(
-        "libpmemlog's append, a pool in /dev/shm.",
-        &["bytes", "with msync ns", "with cache line flushes ns"],
+        "Append through the calls for C beside the proved calls. Image of 8,192 words.",
+        &["bytes", "live", "C ns", "proved ns", "ratio", "bar", ""],
     );
     for ((case, _), medians) in cases.iter().zip(medians(&cases, rounds)?) {
-        table.row(vec![grouped(case.bytes), ns(medians[0]), ns(medians[1])]);
+        let mut row = vec![grouped(case.bytes), grouped(case.live), ns(medians[0]), ns(medians[1])];
+        row.push(ratio(medians[0] / medians[1]));
+        row.extend(bar(medians[0] / medians[1], 1.25));
+        table.row(row);
+    }
+    table.print(out)
+}
+
+/// An append with its ops carried out on a module in /dev/shm, beside libpmemlog's on a pool there. A program that is not there has no
+/// number.
+fn on_a_module(programs: &Programs, rounds: usize, out: &mut impl Write) -> Result<(), Failure> {
+    const LINES: &[(&str, &str)] = &[("PMEM_IS_PMEM_FORCE", "1")];
+    let columns: [(Option<&Path>, &[&str], &[(&str, &str)]); 4] = [
+        (programs.append, &["carried"], &[]),
+        (programs.append_pmem, &["carried"], LINES),
+        (programs.pmemlog, &[], &[]),
+        (programs.pmemlog, &[], LINES),
+    ];
+    let there = columns.map(|(path, args, variables)| {
+        path.filter(|path| path.exists()).map(|path| [Program { path, args, variables }])
+    });
+    if there.iter().all(Option::is_none) {
+        let built = "it is built where target/lib/libdrivelog.a is";
+        return skipped("append on a module", programs.append, built, out);
+    }
+    let mut table = Table::new(
+        "Append with its ops carried out on a module in /dev/shm, beside libpmemlog's append on a pool there.",
+        &[
+            "bytes",
+            "driver, msync ns",
+            "driver, libpmem, cache lines ns",
+            "libpmemlog, msync ns",
+            "libpmemlog, cache lines ns",
+        ],
+    );
+    let lengths = [64, 1_024];
+    let mut cases: Vec<(Case, &[Program])> = Vec::new();
+    for bytes in lengths {
+        let case = Case { job: APPEND, bytes, live: 0, words: LARGEST };
+        cases.extend(there.iter().flatten().map(|program| (case, &program[..])));
+    }
+    let mut medians = medians(&cases, rounds)?.into_iter().flatten();
+    for bytes in lengths {
+        let mut row = vec![grouped(bytes)];
+        for program in &there {
+            let time = program.as_ref().and_then(|_| medians.next());
+            row.push(time.map_or("not there".to_string(), ns));
+        }
+        table.row(row);
     }
     table.print(out)
 }
@@ -492,7 +544,7 @@ impl Table {
 /// The bar that a ratio is held to, and whether it is met.
 fn bar(value: f64, most: f64) -> [String; 2] {
     let verdict = if value <= most { "met" } else { "missed" };
-    [format!("at most {most:.1}"), verdict.to_string()]
+    [format!("at most {most:?}"), verdict.to_string()]
 }
 
 fn ratio(value: f64) -> String {
