@@ -1,7 +1,6 @@
 // Room for the jobs: arrays of which only the length is known to a proof, and the payload of each record.
 use crc32::finish;
 use crc32::over_words;
-use crc32::table;
 ghost use mathlib.Core.Path.{_≡_};
 ghost use lib.ListN.{length};
 
@@ -33,8 +32,7 @@ pub fn payload() -> [u8; BYTES]
 
 // The CRC-32 of words.
 pub fn digest(words: &[u64]) -> u64 {
-    let t = table();
-    finish(over_words(&t, 0xffffffff, words)) as u64
+    finish(over_words(0xffffffff, words)) as u64
 }
 
 // Words with another first one, if there is one.

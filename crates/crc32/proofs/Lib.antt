@@ -1,7 +1,5 @@
 -- The modules of laws.
 -- `Laws` is what a caller cites; the others serve the proofs of this crate.
-pub mod EveryEntry
 pub mod Laws
 pub mod Register
-pub mod TableRule
 pub mod Xor

@@ -1,21 +1,9 @@
--- CRC-32, bit by bit. Document 01: "CRC-32 (ITU-T V.42): bits least significant first, reflected polynomial EDB88320 hex,
--- start and final exclusive-or FFFFFFFF hex."
+-- CRC-32 over bytes. Document 01: "CRC-32 (ITU-T V.42): bits least significant first, reflected polynomial EDB88320 hex,
+-- start and final exclusive-or FFFFFFFF hex." What a bit does is in crate crc_rows, specs/Bits.antt.
 use mathlib.Core.List.{List, [], _∷_}
-use Prim.Native.Nat.{ℕ, zero, suc, _*_, _/_, _%_}
+use Prim.Native.Nat.{ℕ}
 use lib.Bits.{bitXor}
-
--- the generator polynomial, its bits reflected
-abbrev pub poly : ℕ
-poly = 0xEDB88320
-
--- one bit: the register moves a place towards its low end, and the polynomial is added where the bit that falls out is 1
-unfoldable pub crcBit : ℕ → ℕ
-crcBit r = bitXor (r / 2) (r % 2 * poly)
-
--- n bits
-unfoldable pub crcBits : ℕ → ℕ → ℕ
-crcBits zero r = r
-crcBits (suc n) r = crcBits n (crcBit r)
+use Rattle.crc_rows.specs.Bits.{crcBits}
 
 -- one byte, added at the low end
 unfoldable pub crcByte : ℕ → ℕ → ℕ
