@@ -1,0 +1,289 @@
+/* What no script of docs/REPLAY.md can ask of the writing and reading calls of include/drivelog.h: counts of words that are not those of a
+ * state, a reply, a cursor or a record, words that no state or cursor has, and null pointers. Each call is otherwise one that is
+ * granted, and each has to give the refusal that the header says, tell it in its reply, and alter nothing else.
+ *
+ * Standard output: how many calls were made. What is not as it should be: a message, and status 3. */
+
+#include "lent.h"
+
+#include "drivelog.h"
+
+enum { STATE = DRIVELOG_STATE_WORDS, IMAGE = 200, OPS = DRIVELOG_OPS_WORDS, BYTES = 9, ENTRIES = 256 };
+
+enum call { FORMAT, RESERVE, COPY, COMPLETE, FORCE, RELEASE, RELEASE_ALL, RECOVER, WRITING, OPEN = WRITING, NEXT, FETCH, CALLS };
+static const char *const names[] = {"format",      "reserve", "copy", "complete", "force", "release",
+                                    "release_all", "recover", "open", "next",     "fetch"};
+
+/* A log with what its calls need: three records, the first committed, the second complete, the third open; or all committed. */
+struct log {
+    uint64_t state[STATE + 1], image[DRIVELOG_MAX_IMAGE / 8 + 1], cursor[DRIVELOG_CURSOR_WORDS + 2];
+};
+static struct log mixed, settled;
+
+/* How many words or bytes a call is lent. */
+struct counts {
+    size_t state, image, ops, reply, cursor, record, bytes;
+};
+static const struct counts usual = {STATE, IMAGE, OPS, 4, DRIVELOG_CURSOR_WORDS, DRIVELOG_RECORD_WORDS, BYTES};
+
+static const uint64_t old_ops[OPS] = {5, 6, 7}, old_words[] = {~0ull, ~1ull, ~2ull, ~3ull, ~4ull, ~5ull, ~6ull, ~7ull};
+static const uint8_t old_bytes[1024] = {1, 2, 3, 4, 5, 6, 7, 8, 9};
+
+static struct place in_state, in_image, in_ops, in_bytes, in_cursor, in_record, in_reply;
+
+/* Makes a call on copies of a log. With `length` 0 the record is reserved, copied or fetched with no bytes. */
+static int64_t make(enum call call, const struct log *log, struct counts n, uint64_t length)
+{
+    call_name = names[call];
+    call_number++;
+    uint64_t *s = lend(&in_state, log->state, 8 * n.state), *w = lend(&in_image, log->image, 8 * n.image);
+    uint64_t *o = lend(&in_ops, old_ops, 8 * n.ops), *r = lend(&in_reply, old_words, 8 * n.reply);
+    uint64_t *c = lend(&in_cursor, log->cursor, 8 * n.cursor), *f = lend(&in_record, old_words, 8 * n.record);
+    uint8_t *b = lend(&in_bytes, old_bytes, n.bytes);
+    switch (call) {
+    case FORMAT:
+        return drivelog_format(s, n.state, w, n.image, o, n.ops, r, n.reply);
+    case RESERVE:
+        return drivelog_reserve(s, n.state, w, n.image, o, n.ops, 17, length, r, n.reply);
+    case COPY:
+        return drivelog_copy(s, n.state, w, n.image, o, n.ops, 3, 0, b, n.bytes, r, n.reply);
+    case COMPLETE:
+        return drivelog_complete(s, n.state, w, n.image, o, n.ops, 3, r, n.reply);
+    case FORCE:
+        return drivelog_force(s, n.state, w, n.image, o, n.ops, 2, 1, r, n.reply);
+    case RELEASE:
+        return drivelog_release(s, n.state, w, n.image, o, n.ops, 1, r, n.reply);
+    case RELEASE_ALL:
+        return drivelog_release_all(s, n.state, w, n.image, o, n.ops, r, n.reply);
+    case RECOVER:
+        return drivelog_recover(s, n.state, w, n.image, o, n.ops, r, n.reply);
+    case OPEN:
+        return drivelog_open(w, n.image, c, n.cursor, r, n.reply);
+    case NEXT:
+        return drivelog_next(w, n.image, c, n.cursor, f, n.record, r, n.reply);
+    default:
+        return drivelog_fetch(w, n.image, log->cursor[0], length, b, n.bytes, r, n.reply);
+    }
+}
+
+/* The log on which a call is granted. */
+static const struct log *log_of(enum call call) { return call == RELEASE_ALL ? &settled : &mixed; }
+
+static void need_reply(uint64_t number, uint64_t detail, uint64_t second)
+{
+    const uint64_t *reply = (const uint64_t *)(const void *)in_reply.lent;
+    need(reply[0] == number && reply[1] == detail && reply[3] == second, "the reply tells something else");
+    need(number == 0 || reply[2] == 0, "a refusal has ops");
+    need(stayed(&in_reply, old_words, 32), "words behind the reply are altered");
+}
+
+/* A call has to give this refusal. A reply that is short is no reply. */
+static void declines(enum call call, const struct log *log, struct counts n, int number, uint64_t detail)
+{
+    int64_t result = make(call, log, n, BYTES);
+    need(result == -number, result < 0 ? "another refusal" : "it is granted");
+    if (n.reply < 4)
+        need(stayed(&in_reply, old_words, 0), "a short reply is altered");
+    else
+        need_reply((uint64_t)number, detail, 0);
+    need(stayed(&in_state, log->state, 0), "a refusal alters the state");
+    need(stayed(&in_image, log->image, 0), "a refusal alters the image");
+    need(stayed(&in_ops, old_ops, 0), "a refusal alters the op buffer");
+    need(stayed(&in_cursor, log->cursor, 0), "a refusal alters the cursor");
+    need(stayed(&in_record, old_words, 0), "a refusal alters the record");
+    need(stayed(&in_bytes, old_bytes, 0), "a refusal alters the bytes");
+}
+
+/* A call has to return this, with so many ops. */
+static void grants(enum call call, const struct log *log, struct counts n, uint64_t length, int64_t value, uint64_t ops)
+{
+    need(make(call, log, n, length) == value, "another value");
+    need_reply(0, 0, call == RESERVE ? log->state[3] : 0);
+    need(((const uint64_t *)(const void *)in_reply.lent)[2] == ops, "another count of ops");
+    need(stayed(&in_state, log->state, 8 * n.state) && stayed(&in_image, log->image, 8 * n.image), "guard bytes are altered");
+    need(stayed(&in_ops, old_ops, 24 * ops), "the op buffer is altered behind the ops");
+    need(stayed(&in_cursor, log->cursor, 8 * DRIVELOG_CURSOR_WORDS), "words behind the cursor are altered");
+    need(stayed(&in_record, old_words, 8 * DRIVELOG_RECORD_WORDS), "words behind the record are altered");
+    need(stayed(&in_bytes, old_bytes, call == FETCH ? length : 0), "bytes are altered");
+}
+
+/* Makes a log's next call, which changes it. */
+static void step(struct log *log, enum call call, uint64_t lsn)
+{
+    uint64_t ops[OPS], reply[4];
+    int64_t result = 0;
+    call_name = names[call];
+    call_number++;
+    if (call == FORMAT)
+        result = drivelog_format(log->state, STATE, log->image, IMAGE, ops, OPS, reply, 4);
+    else if (call == RESERVE)
+        result = drivelog_reserve(log->state, STATE, log->image, IMAGE, ops, OPS, 16 + lsn, BYTES, reply, 4) - (int64_t)lsn;
+    else if (call == COMPLETE)
+        result = drivelog_complete(log->state, STATE, log->image, IMAGE, ops, OPS, lsn, reply, 4);
+    else if (call == FORCE)
+        result = drivelog_force(log->state, STATE, log->image, IMAGE, ops, OPS, lsn, 1, reply, 4) - 1;
+    else
+        result = drivelog_open(log->image, IMAGE, log->cursor, DRIVELOG_CURSOR_WORDS, reply, 4);
+    need(result == 0, "a log is not made");
+}
+
+static void make_logs(void)
+{
+    step(&mixed, FORMAT, 0);
+    for (uint64_t lsn = 1; lsn <= 3; lsn++) {
+        step(&mixed, RESERVE, lsn);
+        if (lsn < 3)
+            step(&mixed, COMPLETE, lsn);
+    }
+    step(&mixed, FORCE, 1);
+    step(&mixed, OPEN, 0);
+    settled = mixed;
+    step(&settled, COMPLETE, 3);
+    step(&settled, FORCE, 3);
+}
+
+/* What the calls do with the usual counts, and with more words than a reply, a cursor or a record needs. */
+static void usual_counts(void)
+{
+    static const int64_t values[] = {0, 4, 0, 0, 1, 0, 0, 0, 0, 1, BYTES};
+    static const uint64_t ops[] = {11, 6, 2, 1, 3, 10, 9, 11, 0, 0, 0};
+    for (size_t more = 0; more < 3; more++) {
+        struct counts n = usual;
+        n.reply += more;
+        n.cursor += more;
+        n.record += more;
+        for (enum call call = 0; call < CALLS; call++)
+            grants(call, log_of(call), n, BYTES, values[call], ops[call]);
+    }
+    need(drivelog_state_words() == DRIVELOG_STATE_WORDS, "the archive has another count of words for a state");
+}
+
+/* Counts that are none of a state, and fewer words than a reply, a cursor or a record has. */
+static void wrong_counts(void)
+{
+    static const size_t images[] = {0, 1, 39, IMAGE - 1, IMAGE, IMAGE + 1, 8192, 8193}, states[] = {0, 1, 8, 519, 521};
+    for (size_t i = 0; i < 8; i++) {
+        size_t image = images[i];
+        int size_ok = image >= 40 && image <= 8192;
+        for (enum call call = 0; call < WRITING; call++)
+            for (size_t k = 0; k < 5; k++) {
+                struct counts n = usual;
+                n.image = image;
+                n.state = states[k];
+                declines(call, log_of(call), n, size_ok ? DRIVELOG_UNSOUND : DRIVELOG_IMAGE_SIZE, 0);
+            }
+        for (enum call call = 0; call < CALLS; call++)
+            for (size_t reply = 0; reply < 4; reply++) {
+                struct counts n = usual;
+                n.image = image;
+                n.reply = reply;
+                declines(call, log_of(call), n, DRIVELOG_OUTPUT_SHORT, 0);
+                n.state = states[(i + reply) % 5];
+                n.ops = n.cursor = n.record = n.bytes = 0;
+                declines(call, log_of(call), n, DRIVELOG_OUTPUT_SHORT, 0);
+            }
+        for (size_t few = 0; few < 6; few++) {
+            struct counts cursor = usual, record = usual;
+            cursor.image = record.image = image;
+            cursor.cursor = record.record = few;
+            declines(OPEN, &mixed, cursor, DRIVELOG_OUTPUT_SHORT, 0);
+            declines(NEXT, &mixed, cursor, DRIVELOG_OUTPUT_SHORT, 0);
+            declines(NEXT, &mixed, record, DRIVELOG_OUTPUT_SHORT, 0);
+        }
+    }
+}
+
+/* A log with one word of its state changed is none that a call left; the first word is the image's size. Format and recover do not ask. */
+static void broken_state(struct log *log, size_t word, uint64_t value)
+{
+    uint64_t old = log->state[word];
+    log->state[word] = value;
+    for (enum call call = RESERVE; call < RECOVER; call++)
+        if (log_of(call) == log)
+            declines(call, log, usual, word == 0 ? DRIVELOG_IMAGE_SIZE : DRIVELOG_UNSOUND, 0);
+    if (log == &mixed) {
+        grants(FORMAT, log, usual, BYTES, 0, 11);
+        grants(RECOVER, log, usual, BYTES, 0, 11);
+    }
+    log->state[word] = old;
+}
+
+static void broken_states(struct log *log)
+{
+    /* Numbers that are as they were but for a bit that no number has. */
+    for (size_t field = 0; field < 8; field++)
+        for (int bit = 32; bit < 64; bit++)
+            broken_state(log, field, log->state[field] ^ 1ull << bit);
+    for (size_t i = 0; i < ENTRIES; i++) {
+        size_t word = 8 + 2 * i;
+        uint64_t numbers = log->state[word] & 0xffffffffffff, stage = log->state[word] >> 48, epoch = log->state[word + 1];
+        /* Stages that are none, some of which end in the bits of one that is. */
+        for (uint64_t no = 5; no < 16; no++)
+            broken_state(log, word, numbers | no << 48);
+        for (int bit = 3; bit < 16; bit++)
+            broken_state(log, word, numbers | (stage | 1ull << bit) << 48);
+        broken_state(log, word, numbers | 65535ull << 48);
+        /* Epochs that no word of 32 bits holds. */
+        for (int bit = 32; bit < 64; bit++)
+            broken_state(log, word + 1, epoch | 1ull << bit);
+        broken_state(log, word + 1, ~0ull);
+        /* A free entry is all zero. */
+        for (int bit = 0; stage == 0 && bit < 64; bit++) {
+            broken_state(log, word, 1ull << bit);
+            broken_state(log, word + 1, 1ull << bit);
+        }
+    }
+}
+
+/* A cursor as it was but for a bit that no cursor has. */
+static void broken_cursors(void)
+{
+    static const size_t words[] = {0, 2, 3, 4};
+    for (size_t i = 0; i < 4; i++)
+        for (int bit = 32; bit < 64; bit++) {
+            mixed.cursor[words[i]] ^= 1ull << bit;
+            declines(NEXT, &mixed, usual, DRIVELOG_UNSOUND, 0);
+            mixed.cursor[words[i]] ^= 1ull << bit;
+        }
+}
+
+/* No words or bytes at all. */
+static void nothing_lent(void)
+{
+    static const uint64_t needed[] = {33, 18, 6, 3, 9, 30, 27, 33};
+    static struct log empty;
+    step(&empty, FORMAT, 0);
+    struct counts n = usual;
+    n.ops = 0;
+    for (enum call call = 0; call < WRITING; call++)
+        declines(call, log_of(call), n, DRIVELOG_OPS_SHORT, needed[call]);
+    grants(RELEASE_ALL, &empty, n, 0, 0, 0);
+    /* What is durable already needs no ops. */
+    grants(FORCE, &settled, n, 0, 1, 0);
+    n.bytes = 0;
+    grants(COPY, &mixed, n, 0, 0, 0);
+    grants(FETCH, &mixed, n, 0, 0, 0);
+    declines(FETCH, &mixed, n, DRIVELOG_OUTPUT_SHORT, 0);
+    n = usual;
+    n.image = 0;
+    for (enum call call = 0; call < CALLS; call++)
+        declines(call, log_of(call), n, DRIVELOG_IMAGE_SIZE, 0);
+    struct counts none = {0, 0, 0, 0, 0, 0, 0};
+    for (enum call call = 0; call < CALLS; call++)
+        declines(call, log_of(call), none, DRIVELOG_OUTPUT_SHORT, 0);
+}
+
+int main(void)
+{
+    make_logs();
+    for (at_front = 0; at_front < 2; at_front++) {
+        usual_counts();
+        wrong_counts();
+        broken_states(&mixed);
+        broken_states(&settled);
+        broken_cursors();
+        nothing_lent();
+    }
+    printf("words: %llu calls answered as they should be\n", (unsigned long long)call_number);
+    return 0;
+}
