@@ -214,7 +214,7 @@ int64_t drivelog_payload_at(const uint8_t *image, size_t bytes, uint64_t pos, ui
  * type. Where the count is 0 the pointer is not followed and may be null. What is written may overlap nothing else that is lent to
  * the same call. A call keeps nothing and allocates nothing, so calls with different words may run in several threads at once.
  *
- * Stack: a call takes at most 12,288 bytes (12 KB).
+ * Stack: a call takes at most 20,480 bytes (20 KB).
  */
 
 enum drivelog_reply {
@@ -241,7 +241,7 @@ enum drivelog_record {
     DRIVELOG_RECORD_KIND = 2,
     DRIVELOG_RECORD_LENGTH = 3, /* bytes of its payload */
     DRIVELOG_RECORD_MARK = 4,   /* 1 committed, 2 released */
-    DRIVELOG_RECORD_EPOCH = 5   /* 0 */
+    DRIVELOG_RECORD_EPOCH = 5   /* of the state that completed it, or 0 */
 };
 
 uint64_t drivelog_state_words(void);

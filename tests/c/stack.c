@@ -1,7 +1,9 @@
-/* How much stack each call of include/drivelog.h needs: `stack MOST IMAGE` makes each of them in a thread whose stack was painted
- * before, on the image in that file, and looks how far down the paint is gone.
+/* How much stack each call of include/drivelog.h needs: `stack MOST MOST_ON_WORDS IMAGE` makes each of them in a thread whose stack was
+ * painted before, and looks how far down the paint is gone. Those that read bytes go over the image in that file, the others over a
+ * log of their own.
  *
- * Standard output: a line a call, its name and the bytes. Status 1 if one needs more than MOST, 2 if it could not be tried. */
+ * Standard output: a line a call, its name and the bytes. Status 1 if one that reads bytes needs more than MOST, or one that works on
+ * words more than MOST_ON_WORDS, 2 if it could not be tried. */
 
 #define _DEFAULT_SOURCE
 #include "drivelog.h"
@@ -27,6 +29,26 @@ static int64_t epoch(void) { return drivelog_epoch(image, bytes, 0); }
 static int64_t payload(void) { return drivelog_payload(image, bytes, 0, output, sizeof output); }
 static int64_t list(void) { return drivelog_list(image, bytes, rows, sizeof rows / sizeof rows[0]); }
 static int64_t payload_at(void) { return drivelog_payload_at(image, bytes, rows[3], rows[2], output, sizeof output); }
+
+static uint64_t state[DRIVELOG_STATE_WORDS], log_words[DRIVELOG_MAX_IMAGE / 8], ops[DRIVELOG_OPS_WORDS], reply[DRIVELOG_REPLY_WORDS];
+static uint64_t cursor[DRIVELOG_CURSOR_WORDS], record[DRIVELOG_RECORD_WORDS];
+
+#define LOG log_words, DRIVELOG_MAX_IMAGE / 8
+#define LENT state, DRIVELOG_STATE_WORDS, LOG, ops, DRIVELOG_OPS_WORDS
+#define REPLY reply, DRIVELOG_REPLY_WORDS
+
+/* One record of the longest payload, from format to its release. */
+static int64_t format(void) { return drivelog_format(LENT, REPLY); }
+static int64_t reserve(void) { return drivelog_reserve(LENT, 17, sizeof output, REPLY); }
+static int64_t copy(void) { return drivelog_copy(LENT, 1, 0, output, sizeof output, REPLY); }
+static int64_t complete(void) { return drivelog_complete(LENT, 1, REPLY); }
+static int64_t force(void) { return drivelog_force(LENT, 1, 1, REPLY); }
+static int64_t recover(void) { return drivelog_recover(LENT, REPLY); }
+static int64_t open(void) { return drivelog_open(LOG, cursor, DRIVELOG_CURSOR_WORDS, REPLY); }
+static int64_t next(void) { return drivelog_next(LOG, cursor, DRIVELOG_CURSOR_WORDS, record, DRIVELOG_RECORD_WORDS, REPLY); }
+static int64_t fetch(void) { return drivelog_fetch(LOG, 0, sizeof output, output, sizeof output, REPLY); }
+static int64_t release(void) { return drivelog_release(LENT, 1, REPLY); }
+static int64_t release_all(void) { return drivelog_release_all(LENT, REPLY); }
 
 struct call {
     const char *name;
@@ -60,21 +82,12 @@ static size_t used_by(struct call *call)
     return STACK - painted;
 }
 
-int main(int argc, char **argv)
+/* The calls in turn, each held to `most`: the status that they leave. */
+static int tried(struct call *calls, size_t number, size_t most, int status)
 {
-    struct call calls[] = {{"count", count, 0}, {"damage", damage, 0}, {"kind", kind, 0}, {"lsn", lsn, 0}, {"epoch", epoch, 0},
-                           {"payload", payload, 0}, {"list", list, 0}, {"payload_at", payload_at, 0}};
     struct call idle = {"nothing", nothing, 0};
-    FILE *file = argc == 3 ? fopen(argv[2], "rb") : NULL;
-    if (file == NULL) {
-        fputs("usage: stack MOST IMAGE\n", stderr);
-        return 2;
-    }
-    bytes = fread(image, 1, sizeof image, file);
-    fclose(file);
-    size_t most = strtoul(argv[1], NULL, 10), without = used_by(&idle);
-    int status = 0;
-    for (size_t i = 0; i < sizeof calls / sizeof calls[0]; i++) {
+    size_t without = used_by(&idle);
+    for (size_t i = 0; i < number; i++) {
         size_t used = used_by(&calls[i]);
         used -= used < without ? used : without;
         printf("%s %zu\n", calls[i].name, used);
@@ -84,4 +97,22 @@ int main(int argc, char **argv)
             status = 1;
     }
     return status;
+}
+
+int main(int argc, char **argv)
+{
+    struct call on_bytes[] = {{"count", count, 0}, {"damage", damage, 0}, {"kind", kind, 0}, {"lsn", lsn, 0}, {"epoch", epoch, 0},
+                              {"payload", payload, 0}, {"list", list, 0}, {"payload_at", payload_at, 0}};
+    struct call on_words[] = {{"format", format, 0}, {"reserve", reserve, 0}, {"copy", copy, 0}, {"complete", complete, 0},
+                              {"force", force, 0}, {"recover", recover, 0}, {"open", open, 0}, {"next", next, 0}, {"fetch", fetch, 0},
+                              {"release", release, 0}, {"release_all", release_all, 0}};
+    FILE *file = argc == 4 ? fopen(argv[3], "rb") : NULL;
+    if (file == NULL) {
+        fputs("usage: stack MOST MOST_ON_WORDS IMAGE\n", stderr);
+        return 2;
+    }
+    bytes = fread(image, 1, sizeof image, file);
+    fclose(file);
+    int status = tried(on_bytes, sizeof on_bytes / sizeof on_bytes[0], strtoul(argv[1], NULL, 10), 0);
+    return tried(on_words, sizeof on_words / sizeof on_words[0], strtoul(argv[2], NULL, 10), status);
 }
