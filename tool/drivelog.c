@@ -354,23 +354,24 @@ static int format(uint64_t asked)
     return 0;
 }
 
-/* Scans the working image: the number of live records, and the LSN that the next one gets. */
-static uint64_t live_records(uint64_t *next_lsn)
+/* Scans the working image: the number of live records, the LSN that the next one gets, and the log's epoch. */
+static uint64_t live_records(uint64_t *next_lsn, uint64_t *epoch)
 {
     uint64_t cursor[DRIVELOG_CURSOR_WORDS], record[DRIVELOG_RECORD_WORDS], count = 0;
     granted(drivelog_open(image, words, cursor, DRIVELOG_CURSOR_WORDS, REPLY));
     while (granted(next(cursor, record)) == 1)
         count++;
     *next_lsn = reply[DRIVELOG_REPLY_SECOND];
+    *epoch = cursor[CURSOR_SUPERLINE_EPOCH];
     return count;
 }
 
 static int recover(void)
 {
-    uint64_t next_lsn;
+    uint64_t next_lsn, epoch;
     power_up();
-    uint64_t live = live_records(&next_lsn);
-    printf("recovered, %" PRIu64 " live records, next LSN %" PRIu64 ", epoch %" PRIu64 "\n", live, next_lsn, epoch());
+    uint64_t live = live_records(&next_lsn, &epoch);
+    printf("recovered, %" PRIu64 " live records, next LSN %" PRIu64 ", epoch %" PRIu64 "\n", live, next_lsn, epoch);
     return 0;
 }
 
@@ -465,9 +466,9 @@ static int release(uint64_t lsn)
 
 static int release_all(void)
 {
-    uint64_t next_lsn;
+    uint64_t next_lsn, epoch;
     power_up();
-    uint64_t live = live_records(&next_lsn);
+    uint64_t live = live_records(&next_lsn, &epoch);
     carried(drivelog_release_all(LENT, REPLY));
     printf("all released, %" PRIu64 " live records before, next LSN %" PRIu64 "\n", live, next_lsn);
     return 0;
