@@ -306,7 +306,7 @@ fn pair_cells(case: &Case, times: &Times) -> [String; 3] {
 
 fn print_appends(cases: &[Case], times: &Times, out: &mut impl Write) -> Result<(), Failure> {
     let mut table = Table::new(
-        "Append: reserve, copy, complete, force with frequency 8, release of the oldest. Image of 8,192 words.",
+        "Append with the state by value: reserve, copy, complete, force with frequency 8, release of the oldest. Image of 8,192 words.",
         &["bytes", "live", "proved ns", "plain Rust ns", "ratio", "bar", ""],
     );
     for case in cases {
@@ -438,23 +438,31 @@ fn skipped(
     Ok(())
 }
 
-/// An append of 64 bytes through the calls for C beside the proved calls.
+/// An append through the calls for C beside plain Rust, and beside the calls with the state by value.
 fn boundary(programs: &Programs, rounds: usize, out: &mut impl Write) -> Result<(), Failure> {
     let Some(append) = programs.append.filter(|path| path.exists()) else {
         let built = "it is built where target/lib/libdrivelog.a is, which `make lib` writes";
         return skipped("append through the calls for C", programs.append, built, out);
     };
-    let pair = [Program::new(append), Program::new(programs.proved)];
-    let cases = [0, 32, 60, 200, 250]
-        .map(|live| (Case { job: APPEND, bytes: 64, live, words: LARGEST }, &pair[..]));
+    let three =
+        [Program::new(append), Program::new(programs.plain), Program::new(programs.proved)];
+    let cases: Vec<(Case, &[Program])> = [0, 32, 60, 200, 250]
+        .map(|live| (64, live))
+        .into_iter()
+        .chain([0, 32, 60].map(|live| (1_024, live)))
+        .map(|(bytes, live)| (Case { job: APPEND, bytes, live, words: LARGEST }, &three[..]))
+        .collect();
     let mut table = Table::new(
-        "Append through the calls for C beside the proved calls. Image of 8,192 words.",
-        &["bytes", "live", "C ns", "proved ns", "ratio", "bar", ""],
+        "Append through the calls for C, with the state in lent words, beside plain Rust and the calls by value. Image of 8,192 words.",
+        &["bytes", "live", "C ns", "plain Rust ns", "ratio", "bar", "", "by value ns", "ratio", "bar", ""],
     );
     for ((case, _), medians) in cases.iter().zip(medians(&cases, rounds)?) {
-        let mut row = vec![grouped(case.bytes), grouped(case.live), ns(medians[0]), ns(medians[1])];
-        row.push(ratio(medians[0] / medians[1]));
-        row.extend(bar(medians[0] / medians[1], 1.25));
+        let [words, plain, by_value] = medians[..] else { continue };
+        let mut row = vec![grouped(case.bytes), grouped(case.live)];
+        row.extend([ns(words), ns(plain), ratio(words / plain)]);
+        row.extend(bar(words / plain, if case.bytes == 64 { 1.3 } else { 1.6 }));
+        row.extend([ns(by_value), ratio(words / by_value)]);
+        row.extend(bar(words / by_value, 1.25));
         table.row(row);
     }
     table.print(out)

@@ -1,9 +1,10 @@
-/* How much stack each call of include/drivelog.h needs: `stack MOST MOST_ON_WORDS IMAGE` makes each of them in a thread whose stack was
- * painted before, and looks how far down the paint is gone. Those that read bytes go over the image in that file, the others over a
- * log of their own.
+/* How much stack each call of include/drivelog.h needs: `stack MOST MOST_ON_WORDS MOST_ON_A_RECORD IMAGE` makes each of them in a thread
+ * whose stack was painted before, and looks how far down the paint is gone. Those that read bytes go over the image in that file, the
+ * others over a log of their own.
  *
- * Standard output: a line a call, its name and the bytes. Status 1 if one that reads bytes needs more than MOST, or one that works on
- * words more than MOST_ON_WORDS, 2 if it could not be tried. */
+ * Standard output: a line a call, its name and the bytes. Status 1 if one that reads bytes needs more than MOST, one of reserve, copy,
+ * complete and release more than MOST_ON_A_RECORD, or another one that works on words more than MOST_ON_WORDS, 2 if it could not be
+ * tried. */
 
 #define _DEFAULT_SOURCE
 #include "drivelog.h"
@@ -82,8 +83,14 @@ static size_t used_by(struct call *call)
     return STACK - painted;
 }
 
-/* The calls in turn, each held to `most`: the status that they leave. */
-static int tried(struct call *calls, size_t number, size_t most, int status)
+/* Whether it is one of the four calls that work on one record. */
+static int on_a_record(const struct call *call)
+{
+    return call->make == reserve || call->make == copy || call->make == complete || call->make == release;
+}
+
+/* The calls in turn, each held to `most`, or to `most_on_a_record`: the status that they leave. */
+static int tried(struct call *calls, size_t number, size_t most, size_t most_on_a_record, int status)
 {
     struct call idle = {"nothing", nothing, 0};
     size_t without = used_by(&idle);
@@ -93,7 +100,7 @@ static int tried(struct call *calls, size_t number, size_t most, int status)
         printf("%s %zu\n", calls[i].name, used);
         if (calls[i].result < 0)
             status = 2;
-        else if (used > most && status == 0)
+        else if (used > (on_a_record(&calls[i]) ? most_on_a_record : most) && status == 0)
             status = 1;
     }
     return status;
@@ -106,13 +113,14 @@ int main(int argc, char **argv)
     struct call on_words[] = {{"format", format, 0}, {"reserve", reserve, 0}, {"copy", copy, 0}, {"complete", complete, 0},
                               {"force", force, 0}, {"recover", recover, 0}, {"open", open, 0}, {"next", next, 0}, {"fetch", fetch, 0},
                               {"release", release, 0}, {"release_all", release_all, 0}};
-    FILE *file = argc == 4 ? fopen(argv[3], "rb") : NULL;
+    FILE *file = argc == 5 ? fopen(argv[4], "rb") : NULL;
     if (file == NULL) {
-        fputs("usage: stack MOST MOST_ON_WORDS IMAGE\n", stderr);
+        fputs("usage: stack MOST MOST_ON_WORDS MOST_ON_A_RECORD IMAGE\n", stderr);
         return 2;
     }
     bytes = fread(image, 1, sizeof image, file);
     fclose(file);
-    int status = tried(on_bytes, sizeof on_bytes / sizeof on_bytes[0], strtoul(argv[1], NULL, 10), 0);
-    return tried(on_words, sizeof on_words / sizeof on_words[0], strtoul(argv[2], NULL, 10), status);
+    size_t most_on_a_record = strtoul(argv[3], NULL, 10);
+    int status = tried(on_bytes, sizeof on_bytes / sizeof on_bytes[0], strtoul(argv[1], NULL, 10), most_on_a_record, 0);
+    return tried(on_words, sizeof on_words / sizeof on_words[0], strtoul(argv[2], NULL, 10), most_on_a_record, status);
 }

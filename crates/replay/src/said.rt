@@ -9,9 +9,9 @@ use drivelog::Step;
 // The words of answers, each by its place in the text of `print::put_answer`.
 const OK: u64 = 0;
 
-const KEPT: u64 = 1;
+const DURABLE: u64 = 1;
 
-const PUT_OFF: u64 = 2;
+const DEFERRED: u64 = 2;
 
 const RECORD: u64 = 3;
 
@@ -55,8 +55,8 @@ pub fn of_answer(answer: Answer) -> Said {
     match answer {
         Answer::Done => short(OK, 0, 0, 0),
         Answer::Reserved(lsn, pos) => short(OK, 2, lsn, pos),
-        Answer::Durable => short(KEPT, 0, 0, 0),
-        Answer::Deferred => short(PUT_OFF, 0, 0, 0),
+        Answer::Durable => short(DURABLE, 0, 0, 0),
+        Answer::Deferred => short(DEFERRED, 0, 0, 0),
         Answer::Refused(why) => refused(why),
     }
 }
