@@ -119,7 +119,7 @@ fn lsn_of(outcome: Outcome) -> u64 {
     0
 }
 
-// Room for a record. Answers its LSN and the state after it.
+// Room for a record. Answers what the call came to.
 fn reserve(
     state: State,
     kind: u64,
@@ -149,7 +149,7 @@ fn copy(
     outcome.state
 }
 
-// A record's check. Answers the state after it.
+// A record's check. Answers what the call came to.
 fn complete(
     state: State,
     lsn: u64,
