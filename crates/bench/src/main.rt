@@ -8,7 +8,6 @@ mod room;
 
 use jobs::Job;
 use layout::words::words_from;
-use listing::LISTING_ROOM;
 
 // Reads a job. Input that is too short makes job 0, which there is not.
 fn read_job() -> Job {
@@ -42,7 +41,7 @@ fn main() {
     let mut image = room::words();
     let mut ops = room::words();
     let payload = room::payload();
-    let mut text = [0u8; LISTING_ROOM];
+    let mut text = room::text();
     let done = jobs::run(job, &mut image, &mut ops, &payload, &mut text);
     print(done.microseconds, done.digest);
 }

@@ -2,4 +2,3 @@
 -- `Laws` is what a caller cites; the others serve the proofs of this crate.
 pub mod Laws
 pub mod Register
-pub mod Xor

@@ -1,9 +1,9 @@
 -- CRC-32 over bytes. Document 01: "CRC-32 (ITU-T V.42): bits least significant first, reflected polynomial EDB88320 hex,
--- start and final exclusive-or FFFFFFFF hex." What a bit does is in crate crc_rows, specs/Bits.antt.
+-- start and final exclusive-or FFFFFFFF hex." What a bit does is in crate crc_bits, specs/Bits.antt.
 use mathlib.Core.List.{List, [], _∷_}
 use Prim.Native.Nat.{ℕ}
 use lib.Bits.{bitXor}
-use Rattle.crc_rows.specs.Bits.{crcBits}
+use Rattle.crc_bits.specs.Bits.{crcBits}
 
 -- one byte, added at the low end
 unfoldable pub crcByte : ℕ → ℕ → ℕ

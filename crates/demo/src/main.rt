@@ -119,6 +119,50 @@ fn lsn_of(outcome: Outcome) -> u64 {
     0
 }
 
+// Room for a record. Answers what the call came to.
+fn reserve(
+    state: State,
+    kind: u64,
+    length: u64,
+    image: &mut [u64; WORDS],
+    flushed: &mut [u64; WORDS],
+    stored: &mut [u64; WORDS],
+) -> Outcome {
+    let mut ops = [0u64; OPS_WORDS];
+    let outcome = drivelog::reserve(state, image, &mut ops, kind, length);
+    carry_out(&ops, outcome.ops, flushed, stored);
+    outcome
+}
+
+// A record's data. Answers the state after it.
+fn copy(
+    state: State,
+    lsn: u64,
+    data: &[u8],
+    image: &mut [u64; WORDS],
+    flushed: &mut [u64; WORDS],
+    stored: &mut [u64; WORDS],
+) -> State {
+    let mut ops = [0u64; OPS_WORDS];
+    let outcome = drivelog::copy(state, image, &mut ops, lsn, 0, data);
+    carry_out(&ops, outcome.ops, flushed, stored);
+    outcome.state
+}
+
+// A record's check. Answers what the call came to.
+fn complete(
+    state: State,
+    lsn: u64,
+    image: &mut [u64; WORDS],
+    flushed: &mut [u64; WORDS],
+    stored: &mut [u64; WORDS],
+) -> Outcome {
+    let mut ops = [0u64; OPS_WORDS];
+    let outcome = drivelog::complete(state, image, &mut ops, lsn);
+    carry_out(&ops, outcome.ops, flushed, stored);
+    outcome
+}
+
 // Writes a record: room for it, its data, its check. Answers the state after it.
 fn write_record(
     state: State,
@@ -128,17 +172,26 @@ fn write_record(
     flushed: &mut [u64; WORDS],
     stored: &mut [u64; WORDS],
 ) -> State {
+    let reserved = reserve(state, kind, data.len() as u64, image, flushed, stored);
+    let lsn = lsn_of(reserved);
+    let copied = copy(reserved.state, lsn, data, image, flushed, stored);
+    let completed = complete(copied, lsn, image, flushed, stored);
+    say::record(lsn, kind, data, completed);
+    completed.state
+}
+
+// A force that makes the first records durable. Answers the state after it.
+fn force_first(
+    state: State,
+    image: &mut [u64; WORDS],
+    flushed: &mut [u64; WORDS],
+    stored: &mut [u64; WORDS],
+) -> State {
     let mut ops = [0u64; OPS_WORDS];
-    let mut outcome = drivelog::reserve(state, image, &mut ops, kind, data.len() as u64);
+    let outcome = drivelog::force(state, image, &mut ops, FIRST_FORCE, EVERY_LSN);
     carry_out(&ops, outcome.ops, flushed, stored);
-    let lsn = lsn_of(outcome);
-
-    outcome = drivelog::copy(outcome.state, image, &mut ops, lsn, 0, data);
-    carry_out(&ops, outcome.ops, flushed, stored);
-
-    outcome = drivelog::complete(outcome.state, image, &mut ops, lsn);
-    carry_out(&ops, outcome.ops, flushed, stored);
-    say::record(lsn, kind, data, outcome);
+    say::form(b"force up to LSN #: ", &[FIRST_FORCE, 0, 0, 0]);
+    say::outcome(outcome);
     outcome.state
 }
 
@@ -156,12 +209,7 @@ fn write_durable(
     state = write_record(state, 2, b"\x08\x70", image, flushed, stored);
     let part = b"\x62\x05\x20\x41\x77\x33\x98\x12\x04";
     state = write_record(state, 3, part, image, flushed, stored);
-    let mut ops = [0u64; OPS_WORDS];
-    let outcome = drivelog::force(state, image, &mut ops, FIRST_FORCE, EVERY_LSN);
-    carry_out(&ops, outcome.ops, flushed, stored);
-    say::form(b"force up to LSN #: ", &[FIRST_FORCE, 0, 0, 0]);
-    say::outcome(outcome);
-    outcome.state
+    force_first(state, image, flushed, stored)
 }
 
 // Three records that are complete, with no force.
@@ -188,6 +236,17 @@ fn say_ops(ops: &[u64; OPS_WORDS], from: usize, to: usize, remark: &[u8]) {
     }
 }
 
+// Says which ops of a force the driver carries out, and which it does not.
+fn say_cut(ops: &[u64; OPS_WORDS], cut: usize, count: usize) {
+    say::text(
+        b"The answer counts once the driver has carried all these ops out: flush the records, set the\n\
+          mark in the first word of each, flush the marks. It does not get there:\n",
+    );
+    say_ops(ops, 0, cut, b"\n");
+    say::text(b"  power fails here\n");
+    say_ops(ops, cut, count, b" (not carried out)\n");
+}
+
 // A force whose ops the driver does not get to the end of.
 fn force_cut(
     state: State,
@@ -201,13 +260,7 @@ fn force_cut(
     carry_out(&ops, cut, flushed, stored);
     say::form(b"\nforce up to LSN #: ", &[SECOND_FORCE, 0, 0, 0]);
     say::outcome(outcome);
-    say::text(
-        b"The answer counts once the driver has carried all these ops out: flush the records, set the\n\
-          mark in the first word of each, flush the marks. It does not get there:\n",
-    );
-    say_ops(&ops, 0, cut, b"\n");
-    say::text(b"  power fails here\n");
-    say_ops(&ops, cut, outcome.ops, b" (not carried out)\n");
+    say_cut(&ops, cut, outcome.ops);
 }
 
 // The value that a power failure leaves to a word: the flushed one, but for one word, which keeps what was stored

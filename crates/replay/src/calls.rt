@@ -1,20 +1,20 @@
 // The calls of the log, each with the line that it prints: name, answer, the ops of a writing call, digests.
 // What the calls do is said by their own contracts.
-use crate::digest;
-use crate::numbers::NUMBERS;
-use crate::numbers::save_state;
-use crate::numbers::state_of;
-use crate::output::TEXT_SIZE;
-use crate::print::print_digests;
-use crate::print::put_answer;
-use crate::print::put_ops;
 use crate::said;
 use crate::said::REFUSED;
-use crate::said::Said;
-use crate::setup::fill_bytes;
 use drivelog::Cursor;
 use drivelog::Outcome;
 use drivelog::State;
+use script::digest;
+use script::numbers::NUMBERS;
+use script::numbers::save_state;
+use script::numbers::state_of;
+use script::output::TEXT_SIZE;
+use script::print::Said;
+use script::print::print_digests;
+use script::print::put_answer;
+use script::print::put_ops;
+use script::setup::fill_bytes;
 
 // Format, recover, or release all.
 fn call_on_all(number: u64, s: State, image: &mut [u64], ops: &mut [u64]) -> Outcome {

@@ -2,20 +2,18 @@
 // and cursor, and prints what each call answered and left behind. docs/REPLAY.md has the script's words and the lines.
 // The contracts say only that the used parts stay inside the arrays.
 mod calls;
-mod digest;
-mod input;
-mod numbers;
-mod output;
-mod print;
 mod said;
-mod setup;
 
-use input::MAX_BYTES;
-use input::MAX_IMAGE;
-use input::MAX_OPS;
-use numbers::NUMBERS;
-use output::TEXT_SIZE;
-use setup::fill_words;
+use script::input;
+use script::input::MAX_BYTES;
+use script::input::MAX_IMAGE;
+use script::input::MAX_OPS;
+use script::limited;
+use script::numbers::NUMBERS;
+use script::output::TEXT_SIZE;
+use script::print;
+use script::setup;
+use script::setup::fill_words;
 ghost use Prim.Native.Nat.{_≤_};
 ghost use lib.ListN.{length};
 
@@ -47,16 +45,6 @@ fn act(
         return;
     }
     print::print_state(out, numbers);
-}
-
-// A number, taken down to a limit.
-fn limited(n: u64, limit: usize) -> usize
-    ensures { λ r. ⌜ r ≤ limit ⌝ }
-{
-    if n < limit as u64 {
-        return n as usize;
-    }
-    limit
 }
 
 // Carries a command out: `n` words of the image and `t` of the op buffer are used. The bytes of a copy or of a fetch,

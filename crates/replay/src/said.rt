@@ -5,8 +5,9 @@ use drivelog::Fetched;
 use drivelog::Opened;
 use drivelog::Refusal;
 use drivelog::Step;
+use script::print::Said;
 
-// The words of answers, each by its place in the text of `print::put_answer`.
+// The words of answers, each by its place in the text of `script::print::put_answer`.
 const OK: u64 = 0;
 
 const DURABLE: u64 = 1;
@@ -18,15 +19,6 @@ const RECORD: u64 = 3;
 const END: u64 = 4;
 
 pub const REFUSED: u64 = 5;
-
-// An answer's word, how many of the numbers stand behind it, and behind them the test that a damaged record fails, 0 if
-// there is none.
-pub struct Said {
-    pub word: u64,
-    pub count: u64,
-    pub numbers: [u64; 6],
-    pub damage: u64,
-}
 
 // An answer with up to two numbers.
 fn short(word: u64, count: u64, first: u64, second: u64) -> Said {

@@ -1,0 +1,4 @@
+-- The modules of laws: `Xor` and `Linear` of the exclusive or and the register, `Arms` for the proofs of the rows.
+pub mod Xor
+pub mod Linear
+pub mod Arms

@@ -1,0 +1,19 @@
+-- `script::digest::of_bytes` is safe and ends: the digest stays below the prime.
+-- Assumes nothing.
+use borrow.Author.Needs.{needs}
+use Prim.Native.Nat.{_-_, _≤_, _<_}
+use lib.ListN.{length}
+use Rattle.script.proofs.digest.of_bytes.Statement.{statement}
+use Rattle.script.proofs.digest.of_bytes.Tie as tie
+
+abbrev Inv-loop : tie.InvT-loop
+Inv-loop bytes h₀ i₀ h i = (h < 2147483647) × (i ≤ length bytes)
+
+abbrev μ-loop : tie.MeasureT-loop
+μ-loop bytes h₀ i₀ h i = length bytes - i
+
+pub of-bytes-spec : {M : Type 1} → statement M
+of-bytes-spec =
+    tie.close
+    (tie.spec Inv-loop μ-loop (λ c. search needs) (λ c. search needs) (λ c. λ κs. search needs)
+    (λ c. λ κs. search needs) (λ c. search needs) (λ c. search needs) (λ c. search needs) (λ c. search needs))
