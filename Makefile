@@ -12,7 +12,7 @@ SECONDS ?= 60
 SEED ?= 1
 reference = reference/target/release/reference
 # The crates whose functions are the calls for C: those that read an image's bytes, and those of the log with its state in lent words.
-c_crates = query ccalls
+c_crates = query creads ccalls
 .PHONY: demo list load lib $(c_crates:%=staticlib-%) tool prove test compare calls why loads crash kill speed bench bench-c programs
 
 # Says crate by crate how far the proofs are; what the check says is shown only if it fails.

@@ -1,0 +1,2 @@
+-- What the contracts of the calls for C cite of their reply.
+pub mod Told
