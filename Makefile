@@ -6,18 +6,18 @@
 # kill: processes killed, and modules whose power fails, in the middle of writing, as `make kill SECONDS=600 SEED=7`. bench: how long the
 # calls take beside plain Rust, zlib and libpmemlog. speed: how long loglist takes for a full image, beside one in plain Rust.
 # docs/TESTING.md says what the tests show, docs/SPEED.md what the times say.
-.PHONY: demo list load lib tool prove test compare calls why loads crash kill speed bench bench-c programs
 
 SCRIPTS ?= 1000
 SECONDS ?= 60
 SEED ?= 1
 reference = reference/target/release/reference
 # The crates whose functions are the calls for C: those that read an image's bytes, and those of the log with its state in lent words.
-c_crates = query ccalls
+c_crates = query creads ccalls
+.PHONY: demo list load lib $(c_crates:%=staticlib-%) tool prove test compare calls why loads crash kill speed bench bench-c programs
 
 # Says crate by crate how far the proofs are; what the check says is shown only if it fails.
 demo:
-	@mkdir -p target && tests/progress target/demo.log rt check demo
+	@mkdir -p target && tests/progress target/demo.log tests/rt check demo
 	@target/bin/demo
 	@echo
 	@tests/progress target/demo.log make --silent lib
@@ -25,32 +25,35 @@ demo:
 	@tests/tool/demo target/bin/drivelog
 
 list:
-	rt check loglist
+	tests/rt check loglist
 	target/bin/loglist < crates/loglist/stdin
 
 load:
-	rt check logload loglist
+	tests/rt check logload loglist
 	target/bin/logload < crates/logload/stdin | target/bin/loglist
 
-# One object of each crate; what a crate does not export is local to its object.
-lib:
-	for crate in $(c_crates); do rt staticlib $$crate || exit 1; done
+# One object of each crate; what a crate does not export is local to its object. With the crates below proved, `make -j lib` proves them
+# side by side.
+lib: $(c_crates:%=staticlib-%)
 	rm -rf target/lib && mkdir -p target/lib
 	cd target/lib && for crate in $(c_crates); do ar x ../staticlib/lib$$crate.a || exit 1; done
 	cd target/lib && ar rcs libdrivelog.a $(c_crates:=.o)
+
+$(c_crates:%=staticlib-%): staticlib-%:
+	tests/rt staticlib $*
 
 tool: lib
 	mkdir -p target/bin
 	gcc -std=c11 -O2 -Wall -Wextra -Werror -Iinclude -Idriver -o target/bin/drivelog tool/drivelog.c driver/driver.c target/lib/libdrivelog.a
 
 prove:
-	rt prove
+	tests/rt prove
 
 test:
 	tests/gate
 
 programs:
-	rt check replay loglist
+	tests/rt check replay loglist
 	cd reference && cargo build --release --offline --quiet
 
 compare: programs
@@ -61,12 +64,12 @@ calls: lib
 	tests/c/run $(SEED) $(SCRIPTS)
 
 why:
-	rt check logwhy
+	tests/rt check logwhy
 	cd reference && cargo build --release --offline --quiet
 	$(reference) why target/bin/logwhy $(SEED) $(SCRIPTS)
 
 loads:
-	rt check logload loglist
+	tests/rt check logload loglist
 	cd reference && cargo build --release --offline --quiet
 	$(reference) load target/bin/logload target/bin/loglist $(SEED) $(SCRIPTS)
 
@@ -82,7 +85,7 @@ speed: programs
 # Each case by turns, as `make lib bench ROUNDS=101`. Where libpmemlog or the archive of `make lib` is not there, a line says so.
 ROUNDS ?= 31
 bench: programs bench-c
-	rt check bench
+	tests/rt check bench
 	cd reference && cargo build --profile plain --offline --quiet --bin plain_bench
 	$(reference) bench target/bin/bench reference/target/plain/plain_bench target/bench/crc target/bench/pmemlog \
 	  --calls target/bench/calls --append target/bench/append --append-pmem target/bench/append-pmem --rounds $(ROUNDS)

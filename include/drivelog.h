@@ -207,8 +207,9 @@ int64_t drivelog_payload_at(const uint8_t *image, size_t bytes, uint64_t pos, ui
  * A call returns 0 or more, or minus the number of a refusal. A call that declines alters no word that it is lent but the reply's. A
  * reply of fewer than four words is declined before all else with DRIVELOG_OUTPUT_SHORT, and then nothing is altered.
  *
- * Every call answers for every input, as crates/ccalls/specs defines it over crates/journal/specs; that is proved, and so is what a
- * crash leaves of a log that is written so (docs/PROOF.md). Counts are of words, not bytes; an image's words are little-endian in bytes.
+ * Every call answers for every input, as crates/ccalls/specs and creads/specs define it over crates/journal/specs; that is proved, and
+ * so is what a crash leaves of a log that is written so (docs/PROOF.md). Counts are of words, not bytes; an image's words are
+ * little-endian in bytes.
  *
  * Memory: each pointer is to as many words as the count behind it says, `bytes` to `count` bytes. They need the alignment of their
  * type. Where the count is 0 the pointer is not followed and may be null. What is written may overlap nothing else that is lent to

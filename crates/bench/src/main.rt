@@ -8,6 +8,7 @@ mod room;
 
 use jobs::Job;
 use layout::words::words_from;
+use listing::listing_room;
 
 // Reads a job. Input that is too short makes job 0, which there is not.
 fn read_job() -> Job {
@@ -41,7 +42,7 @@ fn main() {
     let mut image = room::words();
     let mut ops = room::words();
     let payload = room::payload();
-    let mut text = room::text();
+    let mut text = listing_room();
     let done = jobs::run(job, &mut image, &mut ops, &payload, &mut text);
     print(done.microseconds, done.digest);
 }

@@ -1,10 +1,8 @@
 // Room for the jobs: arrays of which only the length is known to a proof, and the payload of each record.
 use crc32::finish;
 use crc32::over_words;
-use listing::LISTING_ROOM;
 ghost use mathlib.Core.Path.{_≡_};
 ghost use lib.ListN.{length};
-ghost use Rattle.listing.specs.Listing.{listingRoom};
 
 // Words of the largest image, and of the op buffer.
 pub const WORDS: usize = 8192;
@@ -30,13 +28,6 @@ pub fn payload() -> [u8; BYTES]
         i += 1;
     }
     bytes
-}
-
-// Room for any listing.
-pub fn text() -> [u8; LISTING_ROOM]
-    ensures { λ r. ⌜ listingRoom ≡ length r ⌝ }
-{
-    [0; LISTING_ROOM]
 }
 
 // The CRC-32 of words.

@@ -1,4 +1,2 @@
--- The modules of laws.
--- `Laws` is what a caller cites; the others serve the proofs of this crate.
-pub mod Laws
+-- The laws of the register that the proofs of this crate cite. Those for callers stand in crate crc_bits.
 pub mod Register

@@ -1,5 +1,5 @@
-// The rows by which the CRC-32's register moves a word at a time, the last four of eight. Crate crc_rows has the first four,
-// and says how a row is written and why.
+// The rows by which the CRC-32's register moves a word at a time, the last four of eight. Crate crc_rows has the first
+// four, and says how a row is written and why.
 ghost use mathlib.Core.Path.{_≡_};
 ghost use Prim.Native.Nat.{_<_};
 ghost use Rattle.crc_bits.specs.Bits.{crcBits};

@@ -4,12 +4,9 @@ use crate::WORDS;
 use drivelog::Answer;
 use drivelog::Outcome;
 use libc::STDOUT_FILENO;
-use listing::LISTING_ROOM;
 use listing::Listed;
 use listing::list_image;
-ghost use mathlib.Core.Path.{_≡_};
-ghost use lib.ListN.{length};
-ghost use Rattle.listing.specs.Listing.{listingRoom};
+use listing::listing_room;
 
 // The unit of the mark in a record's word 0, and that of the kind.
 const MARK: u64 = 281474976710656;
@@ -136,13 +133,6 @@ pub fn unflushed(word: u64, flushed: u64, stored: u64, outcome: &[u8]) {
         &[word, flushed / MARK, stored / MARK, 0],
     );
     text(outcome);
-}
-
-// Room for any listing. The `ensures` gives only the length, which lending the array needs.
-fn listing_room() -> [u8; LISTING_ROOM]
-    ensures { λ r. ⌜ listingRoom ≡ length r ⌝ }
-{
-    [0; LISTING_ROOM]
 }
 
 // Writes the listing of an image, the text that loglist prints.

@@ -1,6 +1,6 @@
-// The program logload: reads what loglist prints from standard input, and writes the bytes of an image of 8,192 words that lists
-// the same, or a refusal. The image is `load` of what it reads, by the contract of `load_text`; that it reads and writes is
-// beyond any contract.
+// The program logload: reads what loglist prints from standard input, and writes the bytes of an image of 8,192 words
+// that lists the same, or a refusal. The image is `load` of what it reads, by the contract of `load_text`; that it
+// reads and writes is beyond any contract.
 use libc::STDIN_FILENO;
 use libc::STDOUT_FILENO;
 use listing::refused_line;

@@ -1,6 +1,6 @@
 // The state as numbers in a lent array, in the order of docs/REPLAY.md: its eight fields, then place, length, kind,
-// stage and epoch of each table entry. Between the calls replay keeps them and no State; so a script sets, prints and digests
-// plain numbers.
+// stage and epoch of each table entry. Between the calls replay keeps them and no State; so a script sets, prints and
+// digests plain numbers.
 use state::Entry;
 use state::Stage;
 use state::State;

@@ -1,0 +1,2 @@
+-- The laws of the reply's words.
+pub mod ToldLaws
