@@ -13,7 +13,7 @@ SEED ?= 1
 reference = reference/target/release/reference
 # The crates whose functions are the calls for C: those that read an image's bytes, and those of the log with its state in lent words.
 c_crates = query creads ccalls
-.PHONY: demo list load lib $(c_crates:%=staticlib-%) tool prove test compare calls why loads crash kill speed bench bench-c programs
+.PHONY: demo list load lib tool prove test compare calls why loads crash kill speed bench bench-c programs
 
 # Says crate by crate how far the proofs are; what the check says is shown only if it fails.
 demo:
@@ -32,15 +32,12 @@ load:
 	tests/rt check logload loglist
 	target/bin/logload < crates/logload/stdin | target/bin/loglist
 
-# One object of each crate; what a crate does not export is local to its object. With the crates below proved, `make -j lib` proves them
-# side by side.
-lib: $(c_crates:%=staticlib-%)
+# One object of each crate; what a crate does not export is local to its object. One after the other: two rt in one target/ disturb each other.
+lib:
+	for crate in $(c_crates); do tests/rt staticlib $$crate || exit 1; done
 	rm -rf target/lib && mkdir -p target/lib
 	cd target/lib && for crate in $(c_crates); do ar x ../staticlib/lib$$crate.a || exit 1; done
 	cd target/lib && ar rcs libdrivelog.a $(c_crates:=.o)
-
-$(c_crates:%=staticlib-%): staticlib-%:
-	tests/rt staticlib $*
 
 tool: lib
 	mkdir -p target/bin
