@@ -65,8 +65,8 @@ fn flush(flushed: &mut [u64; WORDS], stored: &[u64; WORDS], first: u64, count: u
     }
 }
 
-// Says what op `k` of a force is, and whether it is among the `cut` that are carried out. A force stores only words 0 of
-// records.
+// Says what op `k` of a force is, and whether it is among the `cut` that are carried out. A force stores only words 0
+// of records.
 fn say_op(k: usize, cut: usize, tag: u64, word: u64, value: u64) {
     if k == cut {
         say(say::POWER_FAILS, 0, 0, 0, 0, 0);
@@ -92,8 +92,8 @@ fn say_op(k: usize, cut: usize, tag: u64, word: u64, value: u64) {
     }
 }
 
-// Carries ops of the op buffer out, in turn. A flush is (2, first word, count). A store is (1, word, value): the word has
-// a new value, which is not flushed. Power fails after `cut` ops: if there are more, it says what each op is.
+// Carries ops of the op buffer out, in turn. A flush is (2, first word, count). A store is (1, word, value): the word
+// has a new value, which is not flushed. Power fails after `cut` ops: if there are more, it says what each op is.
 fn carry_out(
     ops: &[u64; OPS_WORDS],
     count: usize,
@@ -151,8 +151,26 @@ fn write_record(
     completed.state
 }
 
-// Writes the story's records, with a force at every third. Power fails in the middle of the last force. Answers the LSN
-// up to which the one before had made records durable.
+// A force up to an LSN. Power fails in the middle of the last one. Answers the state after it.
+fn force(
+    state: State,
+    lsn: u64,
+    image: &mut [u64; WORDS],
+    ops: &mut [u64; OPS_WORDS],
+    flushed: &mut [u64; WORDS],
+    stored: &mut [u64; WORDS],
+) -> State {
+    let forced = drivelog::force(state, image, ops, lsn, EVERY_LSN);
+    let last = lsn == RECORDS as u64;
+    let passage = if last { say::FORCE_CUT } else { say::FORCED };
+    say(passage, lsn, name_of(forced), forced.ops as u64, 0, 0);
+    let cut = if last { CUT } else { MAX_OPS };
+    carry_out(ops, forced.ops, cut, flushed, stored);
+    forced.state
+}
+
+// Writes the story's records, with a force at every third. Answers the LSN up to which the last force but one had made
+// records durable.
 fn write_all(
     mut state: State,
     image: &mut [u64; WORDS],
@@ -178,13 +196,7 @@ fn write_all(
         k += 1;
         if k % 3 == 0 {
             durable = state.committed_lsn;
-            let forced = drivelog::force(state, image, ops, k as u64, EVERY_LSN);
-            let last = k == RECORDS;
-            let passage = if last { say::FORCE_CUT } else { say::FORCED };
-            say(passage, k as u64, name_of(forced), forced.ops as u64, 0, 0);
-            let cut = if last { CUT } else { MAX_OPS };
-            carry_out(ops, forced.ops, cut, flushed, stored);
-            state = forced.state;
+            state = force(state, k as u64, image, ops, flushed, stored);
         }
     }
     durable
@@ -252,9 +264,9 @@ fn records_as_written(module: &[u64; WORDS]) -> usize
     count
 }
 
-// The drive starts again: recovers the log from what the module holds, and says what was kept, if every durable record is
-// among it and each that the recovery found has its data. Position 0 of the ring is word 24, and no ring has more than
-// 8,168 positions.
+// The drive starts again: recovers the log from what the module holds, and says what was kept, if every durable record
+// is among it and each that the recovery found has its data. Position 0 of the ring is word 24, and no ring has more
+// than 8,168 positions.
 fn start_again(
     durable: u64,
     image: &mut [u64; WORDS],

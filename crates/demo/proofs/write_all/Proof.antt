@@ -8,16 +8,16 @@ use Rattle.demo.proofs.write_all.Statement.{statement}
 use Rattle.demo.proofs.write_all.Tie as tie
 
 abbrev Inv-loop : tie.InvT-loop
-Inv-loop state₀ image₀ ops₀ flushed₀ stored₀ durable₀ k₀ t15 state image ops flushed stored durable k = k ≤ 6
+Inv-loop state₀ image₀ ops₀ flushed₀ stored₀ durable₀ k₀ t11 state image ops flushed stored durable k = k ≤ 6
 
 abbrev μ-loop : tie.MeasureT-loop
-μ-loop state₀ image₀ ops₀ flushed₀ stored₀ durable₀ k₀ t15 state image ops flushed stored durable k = 6 - k
+μ-loop state₀ image₀ ops₀ flushed₀ stored₀ durable₀ k₀ t11 state image ops flushed stored durable k = 6 - k
 
 loop-less : tie.Need-loop-less Inv-loop μ-loop
-loop-less c = omega (arith, c .before .before .before .before .before .before .before .before .before .before .before .before .before .before .before .before .before .before .before .before .before .before .loop-test .taken)
+loop-less c = omega (arith, c .before .before .before .before .before .before .before .before .before .before .before .before .before .before .before .loop-test .taken)
 
 loop-again : tie.Need-loop-again Inv-loop μ-loop
-loop-again c = omega (arith, c .before .before .before .before .before .before .before .before .before .before .before .before .before .before .before .before .before .before .before .before .before .before .loop-test .taken)
+loop-again c = omega (arith, c .before .before .before .before .before .before .before .before .before .before .before .before .before .before .before .loop-test .taken)
 
 pub write-all-spec : {M : Type 1} → statement M
 write-all-spec =
@@ -25,6 +25,5 @@ write-all-spec =
     (tie.spec Inv-loop μ-loop (λ c. search needs) (λ c. search needs) (λ c. search needs) (λ c. search needs)
     (λ c. ⊎-elim (λ w. search (needs, w)) (λ w. search (needs, w)) (c .before .if1 .came)) (λ c. search needs)
     (λ c. search needs) (λ c. ⊎-elim (λ w. omega arith) (λ w. omega arith) (c .before .before .if1 .came))
-    (λ c. λ κs. search needs) (λ c. search needs) (λ c. λ κs. search needs) (λ c. λ κs. search needs)
-    (λ c. λ κs. search needs) (λ c. λ κs. search needs) loop-less loop-again (λ c. search needs)
-    (λ c. search needs) (λ c. search needs))
+    (λ c. λ κs. search needs) (λ c. search needs) (λ c. λ κs. search needs) loop-less loop-again
+    (λ c. search needs) (λ c. search needs) (λ c. search needs))
