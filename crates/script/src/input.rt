@@ -1,7 +1,6 @@
 // Commands of the script, off standard input: each with its arguments, within the limits, and a copy's bytes with it.
 use libc::STDIN_FILENO;
 use libc::STDOUT_FILENO;
-use packing::words_from;
 
 // The most words of the image and of the op buffer, and bytes of a copy or a fetch.
 pub const MAX_IMAGE: usize = 9000;
