@@ -1,7 +1,6 @@
 // The jobs: each sets its work up, does it between two looks at the clock, and takes a CRC-32 of what is left.
 use crate::log;
 use crate::room;
-use crate::room::WORDS;
 use drivelog::State;
 use packing::words_from;
 ghost use Prim.Native.Nat.{_*_, _≤_};
@@ -44,17 +43,13 @@ fn since(before: u64) -> u64 {
     after - before
 }
 
-// Does the work of job 1, 3, 1000 and above or, for any other number, 4, so often: appends, each followed by releases
-// that leave `live` records; recoveries; releases; listings. Answers the bytes of a listing's text.
-//
-// Job 1000 + k is the release of the head with k released records behind it, each time of the same state. Job 2000 + k
-// is the same with no LSN, 0: such a release is refused behind the soundness test, so that the two tell what lies
-// behind that test.
+// Does the work of job 1, 3 or, for any other number, 4, so often: appends, each followed by releases that leave `live`
+// records; recoveries; listings. Answers the bytes of a listing's text.
 fn work(
     job: Job,
     s: State,
     image: &mut [u64],
-    ops: &mut [u64; WORDS],
+    ops: &mut [u64],
     payload: &[u8],
     text: &mut [u8],
 ) -> usize
@@ -68,39 +63,38 @@ fn work(
         log::recover_over(image, ops, job.count);
         return 0;
     }
-    if 1000 <= job.number {
-        let lsn = if job.number < 2000 { s.head_lsn } else { 0 };
-        log::release_over(s, image, ops, lsn, job.count);
-        return 0;
-    }
     log::list_over(image, text, job.count)
 }
 
-// A CRC-32 of what a job left: of the text after listings, of the image after any other work.
+// Job 1000 + k: the release of the head with k released records behind it, so often, each time of the same state. Job
+// 2000 + k is the same with no LSN, 0: such a release is refused behind the soundness test, so that the two tell what
+// lies behind that test.
+fn release_job(job: Job, image: &mut [u64], ops: &mut [u64], payload: &[u8]) -> Done {
+    let s = log::start(image, ops, payload, job.live);
+    let t = log::release_behind(s, image, ops, job.number % 1000);
+    let lsn = if job.number < 2000 { t.head_lsn } else { 0 };
+    let before = now();
+    log::release_over(t, image, ops, lsn, job.count);
+    let microseconds = since(before);
+    Done {
+        microseconds,
+        digest: room::digest(image),
+    }
+}
+
+// A CRC-32 of what a job left: of the image after appends and recoveries, of the text after listings.
 fn digest_of(number: u64, image: &[u64], text: &[u8]) -> u64 {
-    if (number == 1) | (number == 3) | (1000 <= number) {
+    if (number == 1) | (number == 3) {
         return room::digest(image);
     }
     crc32::crc_bytes(text) as u64
 }
 
-// Does a job on a log with `live` records, of which those behind the head are released for jobs 1000 and above.
-fn job_on(
-    job: Job,
-    image: &mut [u64],
-    ops: &mut [u64; WORDS],
-    payload: &[u8],
-    text: &mut [u8],
-) -> Done {
+// Does job 1, 3 or 4 on a log with `live` records.
+fn job_on(job: Job, image: &mut [u64], ops: &mut [u64], payload: &[u8], text: &mut [u8]) -> Done {
     let s = log::start(image, ops, payload, job.live);
-    let behind = if job.number < 1000 {
-        0
-    } else {
-        job.number % 1000
-    };
-    let t = log::release_behind(s, image, ops, behind);
     let before = now();
-    let end = work(job, t, image, ops, payload, text);
+    let end = work(job, s, image, ops, payload, text);
     let microseconds = since(before);
     Done {
         microseconds,
@@ -133,13 +127,7 @@ fn limited(n: u64, limit: usize) -> usize
 }
 
 // Does a job. Numbers above the limits are taken down to them.
-pub fn run(
-    job: Job,
-    image: &mut [u64],
-    ops: &mut [u64; WORDS],
-    payload: &[u8],
-    text: &mut [u8],
-) -> Done
+pub fn run(job: Job, image: &mut [u64], ops: &mut [u64], payload: &[u8], text: &mut [u8]) -> Done
     requires { ⌜ length (now payload) ≤ 1024 ⌝ }
 {
     let k = limited(job.bytes, payload.len());
@@ -148,5 +136,8 @@ pub fn run(
         return crc_job(job, &payload[..k], &mut image[..n]);
     }
     let n = limited(job.words, image.len());
+    if 1000 <= job.number {
+        return release_job(job, &mut image[..n], ops, &payload[..k]);
+    }
     job_on(job, &mut image[..n], ops, &payload[..k], text)
 }

@@ -1,5 +1,4 @@
 // The log that the jobs work on: records appended, forced at every eighth, and released from the head on.
-use crate::room::WORDS;
 use drivelog::State;
 use drivelog::complete;
 use drivelog::copy;
@@ -14,14 +13,14 @@ ghost use Prim.Native.Nat.{_≤_};
 ghost use lib.ListN.{length};
 
 // One record more, reserved and filled.
-fn draft(s: State, image: &mut [u64], ops: &mut [u64; WORDS], payload: &[u8]) -> State {
+fn draft(s: State, image: &mut [u64], ops: &mut [u64], payload: &[u8]) -> State {
     let reserved = reserve(s, image, ops, 1, payload.len() as u64);
     let copied = copy(reserved.state, image, ops, s.next_lsn, 0, payload);
     copied.state
 }
 
 // One record more: reserved, filled, completed, and forced if its LSN is a multiple of eight.
-pub fn append(s: State, image: &mut [u64], ops: &mut [u64; WORDS], payload: &[u8]) -> State {
+pub fn append(s: State, image: &mut [u64], ops: &mut [u64], payload: &[u8]) -> State {
     let lsn = s.next_lsn;
     let drafted = draft(s, image, ops, payload);
     let completed = complete(drafted, image, ops, lsn);
@@ -39,7 +38,7 @@ fn is_over(head: u64, next: u64, committed: u64, live: u64) -> bool {
 
 // Records released from the head on, committed ones only, until `live` are left. A proved loop has to end: 256 turns
 // are enough.
-pub fn trim(s: State, image: &mut [u64], ops: &mut [u64; WORDS], live: u64) -> State {
+pub fn trim(s: State, image: &mut [u64], ops: &mut [u64], live: u64) -> State {
     let mut t = s;
     let mut turns: u64 = 256;
     while 0 < turns {
@@ -57,7 +56,7 @@ pub fn trim(s: State, image: &mut [u64], ops: &mut [u64; WORDS], live: u64) -> S
 pub fn append_over(
     s: State,
     image: &mut [u64],
-    ops: &mut [u64; WORDS],
+    ops: &mut [u64],
     payload: &[u8],
     live: u64,
     count: u64,
@@ -73,7 +72,7 @@ pub fn append_over(
 }
 
 // A log with `live` records, all of them durable.
-pub fn start(image: &mut [u64], ops: &mut [u64; WORDS], payload: &[u8], live: u64) -> State {
+pub fn start(image: &mut [u64], ops: &mut [u64], payload: &[u8], live: u64) -> State {
     let formatted = format(image, ops);
     let filled = append_over(formatted.state, image, ops, payload, live, live);
     let forced = force(filled, image, ops, live, 1);
@@ -81,7 +80,7 @@ pub fn start(image: &mut [u64], ops: &mut [u64; WORDS], payload: &[u8], live: u6
 }
 
 // The `k` records behind the head released. A proved loop has to end: it goes up to the LSN behind them.
-pub fn release_behind(s: State, image: &mut [u64], ops: &mut [u64; WORDS], k: u64) -> State {
+pub fn release_behind(s: State, image: &mut [u64], ops: &mut [u64], k: u64) -> State {
     let mut t = s;
     let mut left = k;
     while 0 < left {
@@ -93,7 +92,7 @@ pub fn release_behind(s: State, image: &mut [u64], ops: &mut [u64; WORDS], k: u6
 }
 
 // So many releases of an LSN, each of the same state.
-pub fn release_over(s: State, image: &mut [u64], ops: &mut [u64; WORDS], lsn: u64, count: u64) {
+pub fn release_over(s: State, image: &mut [u64], ops: &mut [u64], lsn: u64, count: u64) {
     let mut left = count;
     while 0 < left {
         release(s, image, ops, lsn);
@@ -102,7 +101,7 @@ pub fn release_over(s: State, image: &mut [u64], ops: &mut [u64; WORDS], lsn: u6
 }
 
 // So many recoveries of an image.
-pub fn recover_over(image: &mut [u64], ops: &mut [u64; WORDS], count: u64) {
+pub fn recover_over(image: &mut [u64], ops: &mut [u64], count: u64) {
     let mut left = count;
     while 0 < left {
         recover(image, ops);

@@ -4,8 +4,10 @@
 // The contracts say only what keeps indexes inside their arrays.
 mod say;
 
+use drivelog::Answer;
 use drivelog::Found;
 use drivelog::Opened;
+use drivelog::Outcome;
 use drivelog::State;
 use drivelog::Step;
 use say::name_of;
@@ -126,8 +128,16 @@ fn carry_out(
 
 // The drive program makes the calls. The driver carries out the ops of each before the next.
 
-// Writes a record: room for it, which gives it the state's next LSN, then its data, then its check. Answers the state
-// after it.
+// The LSN that reserve answered; 0, which is no LSN, where it was refused.
+fn lsn_of(outcome: Outcome) -> u64 {
+    let answer = outcome.answer;
+    if let Answer::Reserved(lsn, _) = answer {
+        return lsn;
+    }
+    0
+}
+
+// Writes a record: room for it, which gives it an LSN, then its data, then its check. Answers the state after it.
 fn write_record(
     state: State,
     kind: u64,
@@ -137,9 +147,9 @@ fn write_record(
     flushed: &mut [u64; WORDS],
     stored: &mut [u64; WORDS],
 ) -> State {
-    let lsn = state.next_lsn;
     let reserved = drivelog::reserve(state, image, ops, kind, data.len() as u64);
     carry_out(ops, reserved.ops, MAX_OPS, flushed, stored);
+    let lsn = lsn_of(reserved);
     let copied = drivelog::copy(reserved.state, image, ops, lsn, 0, data);
     carry_out(ops, copied.ops, MAX_OPS, flushed, stored);
     let completed = drivelog::complete(copied.state, image, ops, lsn);

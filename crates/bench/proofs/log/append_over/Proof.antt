@@ -7,7 +7,7 @@ use Rattle.bench.proofs.log.append_over.Statement.{statement}
 use Rattle.bench.proofs.log.append_over.Tie as tie
 
 abbrev Inv-loop : tie.InvT-loop
-Inv-loop image₀ ops₀ payload live count t₀ left₀ image ops t left = length image ≡ length image₀
+Inv-loop image₀ ops₀ payload live count t₀ left₀ image ops t left = (length image ≡ length image₀) × (length ops ≡ length ops₀)
 
 abbrev μ-loop : tie.MeasureT-loop
 μ-loop image₀ ops₀ payload live count t₀ left₀ image ops t left = left
@@ -16,4 +16,5 @@ pub append-over-spec : {M : Type 1} → statement M
 append-over-spec =
     tie.close
     (tie.spec Inv-loop μ-loop (λ c. search needs) (λ c. λ κs. search needs) (λ c. λ κs. search needs)
-    (λ c. search needs) (λ c. search needs) (λ c. search needs) (λ c. search needs) (λ c. search needs))
+    (λ c. search needs) (λ c. search needs) (λ c. search needs) (λ c. search needs) (λ c. search needs)
+    (λ c. search needs))

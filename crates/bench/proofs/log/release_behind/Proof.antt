@@ -7,7 +7,7 @@ use Rattle.bench.proofs.log.release_behind.Statement.{statement}
 use Rattle.bench.proofs.log.release_behind.Tie as tie
 
 abbrev Inv-loop : tie.InvT-loop
-Inv-loop s image₀ ops₀ k t₀ left₀ image ops t left = length image ≡ length image₀
+Inv-loop s image₀ ops₀ k t₀ left₀ image ops t left = (length image ≡ length image₀) × (length ops ≡ length ops₀)
 
 abbrev μ-loop : tie.MeasureT-loop
 μ-loop s image₀ ops₀ k t₀ left₀ image ops t left = left
@@ -16,4 +16,5 @@ pub release-behind-spec : {M : Type 1} → statement M
 release-behind-spec =
     tie.close
     (tie.spec Inv-loop μ-loop (λ c. search needs) (λ c. λ κs. search needs) (λ c. λ κs. search needs)
-    (λ c. search needs) (λ c. search needs) (λ c. search needs) (λ c. search needs) (λ c. search needs))
+    (λ c. search needs) (λ c. search needs) (λ c. search needs) (λ c. search needs) (λ c. search needs)
+    (λ c. search needs))

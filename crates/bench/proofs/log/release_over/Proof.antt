@@ -7,7 +7,7 @@ use Rattle.bench.proofs.log.release_over.Statement.{statement}
 use Rattle.bench.proofs.log.release_over.Tie as tie
 
 abbrev Inv-loop : tie.InvT-loop
-Inv-loop s image₀ ops₀ lsn count left₀ image ops left = length image ≡ length image₀
+Inv-loop s image₀ ops₀ lsn count left₀ image ops left = (length image ≡ length image₀) × (length ops ≡ length ops₀)
 
 abbrev μ-loop : tie.MeasureT-loop
 μ-loop s image₀ ops₀ lsn count left₀ image ops left = left
@@ -16,4 +16,4 @@ pub release-over-spec : {M : Type 1} → statement M
 release-over-spec =
     tie.close
     (tie.spec Inv-loop μ-loop (λ c. search needs) (λ c. λ κs. search needs) (λ c. search needs)
-    (λ c. search needs) (λ c. search needs) (λ c. search needs) (λ c. search needs))
+    (λ c. search needs) (λ c. search needs) (λ c. search needs) (λ c. search needs) (λ c. search needs))

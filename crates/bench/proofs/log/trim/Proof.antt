@@ -7,7 +7,7 @@ use Rattle.bench.proofs.log.trim.Statement.{statement}
 use Rattle.bench.proofs.log.trim.Tie as tie
 
 abbrev Inv-loop : tie.InvT-loop
-Inv-loop image₀ ops₀ live t₀ turns₀ image ops t turns = length image ≡ length image₀
+Inv-loop image₀ ops₀ live t₀ turns₀ image ops t turns = (length image ≡ length image₀) × (length ops ≡ length ops₀)
 
 abbrev μ-loop : tie.MeasureT-loop
 μ-loop image₀ ops₀ live t₀ turns₀ image ops t turns = turns
@@ -16,5 +16,5 @@ pub trim-spec : {M : Type 1} → statement M
 trim-spec =
     tie.close
     (tie.spec Inv-loop μ-loop (λ c. search needs) (λ c. λ κs. search needs) (λ c. search needs)
-    (λ c. search needs) (λ c. λ κs. search needs) (λ c. search needs) (λ c. search needs) (λ c. search needs)
-    (λ c. search needs) (λ c. search needs))
+    (λ c. search needs) (λ c. search needs) (λ c. λ κs. search needs) (λ c. search needs) (λ c. search needs)
+    (λ c. search needs) (λ c. search needs) (λ c. search needs) (λ c. search needs))
