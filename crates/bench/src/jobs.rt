@@ -2,7 +2,7 @@
 use crate::log;
 use crate::room;
 use drivelog::State;
-use layout::words::words_from;
+use packing::words_from;
 ghost use Prim.Native.Nat.{_*_, _≤_};
 ghost use lib.ListN.{length};
 

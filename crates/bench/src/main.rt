@@ -7,8 +7,8 @@ mod log;
 mod room;
 
 use jobs::Job;
-use layout::words::words_from;
 use listing::listing_room;
+use packing::words_from;
 
 // Reads a job. Input that is too short makes job 0, which there is not.
 fn read_job() -> Job {

@@ -1,3 +1,2 @@
--- Definitions, a file for each subject: what the contracts cite.
+-- What the contracts cite.
 pub mod Writing
-pub mod Parts

@@ -1,4 +1,4 @@
-// What demo prints: answers, records, ops and words in plain words.
+// What demo prints. The passages of its story and the names in them stand in one text each, and have numbers.
 // A program's output is beyond any contract, so these functions have none.
 use crate::WORDS;
 use drivelog::Answer;
@@ -8,65 +8,152 @@ use listing::Listed;
 use listing::list_image;
 use listing::listing_room;
 
-// The unit of the mark in a record's word 0, and that of the kind.
-const MARK: u64 = 281474976710656;
+// The numbers of the passages, in the story's order.
+pub const OPENING: u64 = 0;
 
-const KIND: u64 = 4294967296;
+pub const RECORD: u64 = 1;
 
-// Writes a text as it is.
-pub fn text(bytes: &[u8]) {
-    io::write_all(STDOUT_FILENO, bytes);
-}
+pub const COMPLETED: u64 = 2;
 
-// Writes a byte of a form, or number `k` in the place of a `#`. Answers the next number's index.
-fn put(byte: u8, numbers: &[u64; 4], k: usize) -> usize {
-    if byte == b'#' {
-        if k < 4 {
-            io::print_decimal(STDOUT_FILENO, numbers[k]);
-            return k + 1;
-        }
-    }
+pub const FORCED: u64 = 3;
+
+pub const FORCE_CUT: u64 = 4;
+
+pub const STORE: u64 = 5;
+
+pub const FLUSH_WORD: u64 = 6;
+
+pub const FLUSH_WORDS: u64 = 7;
+
+pub const POWER_FAILS: u64 = 8;
+
+pub const NOT_FLUSHED: u64 = 9;
+
+pub const WORD_LEFT: u64 = 10;
+
+pub const RECOVERED: u64 = 11;
+
+pub const MARK_BEHIND: u64 = 12;
+
+pub const LISTING: u64 = 13;
+
+pub const KEPT_RECORDS: u64 = 14;
+
+pub const BROKEN: u64 = 15;
+
+// The numbers of names, which begin with those of the kinds 1 to 3.
+const DONE: u64 = 4;
+
+const RESERVED: u64 = 5;
+
+const DURABLE: u64 = 6;
+
+const DEFERRED: u64 = 7;
+
+const REFUSED: u64 = 8;
+
+pub const KEPT: u64 = 9;
+
+pub const LOST: u64 = 10;
+
+pub const CARRIED_OUT: u64 = 11;
+
+pub const NOT_CARRIED_OUT: u64 = 12;
+
+// Writes one byte.
+fn put(byte: u8) {
     let one = [byte];
-    text(&one);
-    k
+    io::write_all(STDOUT_FILENO, &one);
 }
 
-// Writes a form: a text with the numbers, in turn, in the places of its `#`.
-pub fn form(bytes: &[u8], numbers: &[u64; 4]) {
-    let mut k: usize = 0;
+// Writes the name that has a number.
+fn put_name(mut number: u64) {
+    let names: &[u8] = b"(unknown)|(bearing hours)|(motor current)|(part exchanged)|\
+          done|reserved|durable|deferred|refused|\
+          kept|lost|\
+          | (not carried out)|";
     let mut i: usize = 0;
-    while i < bytes.len() {
-        k = put(bytes[i], numbers, k);
+    while i < names.len() {
+        let byte = names[i];
+        if byte == b'|' {
+            if number == 0 {
+                return;
+            }
+            number -= 1;
+        } else if number == 0 {
+            put(byte);
+        }
         i += 1;
     }
 }
 
-// Writes what the story is about.
-pub fn opening() {
-    text(
-        b"The drive log in a minute: records, a power failure, and what is left.\n\n\
+// Writes the passage that has a number, with `a` to `e` in turn in its places: a `#` is that of a number, a `@` that of
+// the name with that number.
+pub fn say(mut passage: u64, mut a: u64, mut b: u64, mut c: u64, mut d: u64, e: u64) {
+    let story: &[u8] = b"The drive log in a minute: records, a power failure, and what is left.\n\n\
           A call of the library touches no memory module. It lists ops, and a driver carries them out:\n\
           a store gives a word a new value, a flush makes words keep theirs when power fails.\n\
-          Data here is decimal digits, two to a byte, so that the hex of a listing reads as the number.\n\n",
-    );
-}
-
-// Writes the answer of a writing call.
-fn answer(answer: Answer) {
-    match answer {
-        Answer::Done => text(b"done"),
-        Answer::Reserved(_, _) => text(b"reserved"),
-        Answer::Durable => text(b"durable"),
-        Answer::Deferred => text(b"deferred"),
-        Answer::Refused(why) => form(b"refused #", &[drivelog::number_of(why), 0, 0, 0]),
+          Data here is decimal digits, two to a byte, so that the hex of a listing reads as the number.\n\n\
+          format: @, # ops\n\
+          Of the module's # words, # are the ring of records; the others say where the log begins.\n\n\
+          Three records are written: reserve, copy and complete for each. Then one force.\n\
+          |  LSN #, kind # @, data |: @\n\
+          |force up to LSN #: @, # ops\n\n\
+          Three more are complete, and not forced yet.\n\
+          |\nforce up to LSN #: @, # ops\n\
+          The answer counts once the driver has carried all these ops out: flush the records, set the\n\
+          mark in the first word of each, flush the marks. It does not get there:\n\
+          |  store word #: length #, kind #, mark #@\n\
+          |  flush word #@\n\
+          |  flush # words from word # on@\n\
+          |  power fails here\n\
+          |\nA word that is stored and not flushed may hold its old or its new value, each for itself:\n\
+          |  word #: mark # or mark #; here the store is @\n\
+          |\nThe drive starts again, with no state but what the module holds.\n\
+          recover: @, # ops\n\
+          It finds # records with the data that was written. The next has LSN # and goes to word #.\n\
+          |The mark that was kept at word # lies behind the end and counts for nothing.\n\n\
+          The listing of the module, as loglist prints it:\n\
+          |\nThe listing of the module, as loglist prints it:\n\
+          |\nKept: LSN 1 to #, with the # that a force had made durable. Taken: LSN # to #.\n\
+          |\nThe log has broken its promise.\n|";
+    let mut i: usize = 0;
+    while i < story.len() {
+        let byte = story[i];
+        if byte == b'|' {
+            if passage == 0 {
+                return;
+            }
+            passage -= 1;
+        } else if passage == 0 {
+            if (byte == b'#') | (byte == b'@') {
+                if byte == b'#' {
+                    io::print_decimal(STDOUT_FILENO, a);
+                } else {
+                    put_name(a);
+                }
+                a = b;
+                b = c;
+                c = d;
+                d = e;
+            } else {
+                put(byte);
+            }
+        }
+        i += 1;
     }
 }
 
-// Writes the answer of a writing call and its count of ops, and ends the line.
-pub fn outcome(outcome: Outcome) {
-    let said = outcome.answer;
-    answer(said);
-    form(b", # ops\n", &[outcome.ops as u64, 0, 0, 0]);
+// The number of the name of a call's answer.
+pub fn name_of(outcome: Outcome) -> u64 {
+    let answer = outcome.answer;
+    match answer {
+        Answer::Done => DONE,
+        Answer::Reserved(_, _) => RESERVED,
+        Answer::Durable => DURABLE,
+        Answer::Deferred => DEFERRED,
+        Answer::Refused(_) => REFUSED,
+    }
 }
 
 fn wide(b: u8) -> u64 {
@@ -74,7 +161,7 @@ fn wide(b: u8) -> u64 {
 }
 
 // Writes the two hex digits of each byte.
-fn pairs(bytes: &[u8]) {
+pub fn pairs(bytes: &[u8]) {
     let mut i: usize = 0;
     while i < bytes.len() {
         io::print_hex(STDOUT_FILENO, wide(bytes[i]), 2);
@@ -82,80 +169,11 @@ fn pairs(bytes: &[u8]) {
     }
 }
 
-// Writes what the drives of this story use a kind for.
-fn kind_name(kind: u64) {
-    match kind {
-        1 => text(b"(bearing hours)"),
-        2 => text(b"(motor current)"),
-        3 => text(b"(part exchanged)"),
-        _ => text(b"(unknown)"),
-    }
-}
-
-// Writes the line of a record that was written.
-pub fn record(lsn: u64, kind: u64, data: &[u8], outcome: Outcome) {
-    form(b"  LSN #, kind # ", &[lsn, kind, 0, 0]);
-    kind_name(kind);
-    text(b", data ");
-    pairs(data);
-    text(b": ");
-    let said = outcome.answer;
-    answer(said);
-    text(b"\n");
-}
-
-// Writes one op of a force, with a remark behind it. A force stores only words 0 of records.
-pub fn op(tag: u64, word: u64, value: u64, remark: &[u8]) {
-    if tag == 1 {
-        form(
-            b"  store word #: length #, kind #, mark #",
-            &[word, value % KIND, value / KIND % 65536, value / MARK],
-        );
-    } else {
-        flush(word, value);
-    }
-    text(remark);
-}
-
-// Writes the words that a flush covers.
-fn flush(first: u64, count: u64) {
-    if count == 1 {
-        form(b"  flush word #", &[first, 0, 0, 0]);
-        return;
-    }
-    form(b"  flush # words from word # on", &[count, first, 0, 0]);
-}
-
-// Writes what a power failure does to a word that is stored and not flushed.
-pub fn unflushed(word: u64, flushed: u64, stored: u64, outcome: &[u8]) {
-    form(
-        b"  word #: mark # or mark #; here the store is ",
-        &[word, flushed / MARK, stored / MARK, 0],
-    );
-    text(outcome);
-}
-
 // Writes the listing of an image, the text that loglist prints.
 pub fn listing(image: &[u64; WORDS]) {
-    text(b"\nThe listing of the module, as loglist prints it:\n");
     let mut room = listing_room();
     let listed = list_image(image, &mut room);
     if let Listed::Text(end) = listed {
-        text(&room[..end]);
-    }
-}
-
-// Writes what a recovery found. Position 0 of the ring is word 24, and no ring has more than 8,168 positions.
-pub fn recovered(count: u64, next_lsn: u64, next_pos: u64, kept_word: u64) {
-    let end = 24 + next_pos % 8168;
-    form(
-        b"It finds # records with the data that was written. The next has LSN # and goes to word #.\n",
-        &[count, next_lsn, end, 0],
-    );
-    if end < kept_word {
-        form(
-            b"The mark that was kept at word # lies behind the end and counts for nothing.\n",
-            &[kept_word, 0, 0, 0],
-        );
+        io::write_all(STDOUT_FILENO, &room[..end]);
     }
 }

@@ -3,9 +3,9 @@
 // reads and writes is beyond any contract.
 use libc::STDIN_FILENO;
 use libc::STDOUT_FILENO;
-use listing::refused_line;
-use load::fill::Answer;
-use load::fill::load_text;
+use lines::refused_line;
+use load::Answer;
+use load::load_text;
 use refusal::Refusal;
 use refusal::number_of;
 ghost use mathlib.Core.Path.{_≡_};

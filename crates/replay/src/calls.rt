@@ -1,52 +1,19 @@
-// The calls of the log, each with the line that it prints: name, answer, the ops of a writing call, digests.
-// What the calls do is said by their own contracts.
+// The calls of the log. What they do is said by their own contracts.
 use crate::said;
 use crate::said::REFUSED;
+use crate::said::Told;
 use drivelog::Cursor;
 use drivelog::Outcome;
 use drivelog::State;
-use script::digest;
-use script::numbers::NUMBERS;
-use script::numbers::save_state;
-use script::numbers::state_of;
-use script::output::TEXT_SIZE;
-use script::print::Said;
-use script::print::print_digests;
-use script::print::put_answer;
-use script::print::put_ops;
+use drivelog::TABLE_SIZE;
+use holding::load;
+use holding::save;
+use script::input::Command;
 use script::setup::fill_bytes;
-
-// Format, recover, or release all.
-fn call_on_all(number: u64, s: State, image: &mut [u64], ops: &mut [u64]) -> Outcome {
-    if number == 10 {
-        return drivelog::format(image, ops);
-    }
-    if number == 17 {
-        return drivelog::recover(image, ops);
-    }
-    drivelog::release_all(s, image, ops)
-}
-
-// Complete, force, or release.
-fn call_on_lsn(
-    number: u64,
-    lsn: u64,
-    frequency: u64,
-    s: State,
-    image: &mut [u64],
-    ops: &mut [u64],
-) -> Outcome {
-    if number == 13 {
-        return drivelog::complete(s, image, ops, lsn);
-    }
-    if number == 14 {
-        return drivelog::force(s, image, ops, lsn, frequency);
-    }
-    drivelog::release(s, image, ops, lsn)
-}
+use statewords::STATE_WORDS;
 
 // Makes a writing call, with its first two arguments.
-fn call(
+fn write(
     number: u64,
     first: u64,
     second: u64,
@@ -55,120 +22,70 @@ fn call(
     ops: &mut [u64],
     bytes: &[u8],
 ) -> Outcome {
+    if number == 10 {
+        return drivelog::format(image, ops);
+    }
     if number == 11 {
         return drivelog::reserve(s, image, ops, first, second);
     }
     if number == 12 {
         return drivelog::copy(s, image, ops, first, second, bytes);
     }
-    if (12 < number) & (number < 16) {
-        return call_on_lsn(number, first, second, s, image, ops);
+    if number == 13 {
+        return drivelog::complete(s, image, ops, first);
     }
-    call_on_all(number, s, image, ops)
-}
-
-// What a writing call answered, and its count of ops. The state after it is kept, unless it was refused.
-struct Written {
-    said: Said,
-    ops: usize,
-}
-
-fn keep(outcome: Outcome, numbers: &mut [u64; NUMBERS]) -> Written {
-    let answer = outcome.answer;
-    let said = said::of_answer(answer);
-    if said.word != REFUSED {
-        save_state(numbers, outcome.state);
+    if number == 14 {
+        return drivelog::force(s, image, ops, first, second);
     }
-    Written {
-        said,
-        ops: outcome.ops,
+    if number == 15 {
+        return drivelog::release(s, image, ops, first);
     }
-}
-
-// Makes a writing call on the state that is kept.
-fn make(
-    number: u64,
-    args: &[u64; 6],
-    numbers: &mut [u64; NUMBERS],
-    image: &mut [u64],
-    ops: &mut [u64],
-    bytes: &[u8],
-) -> Written {
-    let s = state_of(numbers);
-    let outcome = call(number, args[0], args[1], s, image, ops, bytes);
-    keep(outcome, numbers)
-}
-
-// Makes a writing call and prints its line.
-pub fn write(
-    number: u64,
-    args: &[u64; 6],
-    numbers: &mut [u64; NUMBERS],
-    image: &mut [u64],
-    ops: &mut [u64],
-    bytes: &[u8],
-    out: &mut [u8; TEXT_SIZE],
-) {
-    let written = make(number, args, numbers, image, ops, bytes);
-    let said = written.said;
-    let answered = put_answer(out, number, said);
-    let done = put_ops(out, answered, ops, written.ops);
-    print_digests(out, done, image, ops, numbers, 3, 0);
+    if number == 16 {
+        return drivelog::release_all(s, image, ops);
+    }
+    drivelog::recover(image, ops)
 }
 
 // Each output byte before a fetch.
 const OUTPUT_FILL: u8 = 238;
 
-// Makes a reading call. Open and next change the cursor that is kept; a fetch puts its bytes into `output`.
-fn look(
-    number: u64,
-    args: &[u64; 6],
-    cursor: &mut [u64; 6],
-    image: &[u64],
-    output: &mut [u8],
-) -> Said {
-    if number == 20 {
-        let opened = drivelog::open(image);
-        return said::of_opened(opened, cursor);
+// Makes a reading call. A fetch puts its bytes into `output`.
+fn read(c: Command, cursor: Cursor, image: &[u64], output: &mut [u8]) -> Told {
+    if c.number == 20 {
+        return said::of_opened(drivelog::open(image), cursor);
     }
-    if number == 21 {
-        let c = Cursor {
-            pos: cursor[0],
-            lsn: cursor[1],
-            used: cursor[2],
-            count: cursor[3],
-            last_epoch: cursor[4],
-            superline_epoch: cursor[5],
-        };
-        let step = drivelog::next(image, c);
-        return said::of_step(step, cursor);
+    if c.number == 21 {
+        return said::of_step(drivelog::next(image, cursor), cursor);
     }
     fill_bytes(output, OUTPUT_FILL);
-    let fetched = drivelog::fetch(image, args[0], args[1], output);
-    said::of_fetched(fetched)
+    let fetched = drivelog::fetch(image, c.first, c.second, output);
+    let said = said::of_fetched(fetched);
+    Told { said, cursor }
 }
 
-// Makes a reading call and prints its line, with the digest of the output behind a fetch.
-pub fn read(
-    number: u64,
-    args: &[u64; 6],
-    numbers: &[u64; NUMBERS],
-    cursor: &mut [u64; 6],
-    image: &[u64],
-    ops: &[u64],
-    output: &mut [u8],
-    out: &mut [u8; TEXT_SIZE],
-) {
-    let said = look(number, args, cursor, image, output);
-    let answered = put_answer(out, number, said);
-    let digests = if number == 22 { 4 } else { 3 };
-    print_digests(
-        out,
-        answered,
-        image,
-        ops,
-        numbers,
-        digests,
-        digest::of_bytes(output),
-    );
+// Makes a command's call, if it has one, on the state and the cursor that are kept, and keeps the state after it, unless
+// it was refused. `bytes` are those of a copy or of a fetch.
+pub fn make(
+    c: Command,
+    cursor: Cursor,
+    state: &mut [u64; STATE_WORDS],
+    image: &mut [u64],
+    ops: &mut [u64],
+    bytes: &mut [u8],
+) -> Told {
+    let number = c.number;
+    if (number < 10) | (22 < number) {
+        return said::of_none(c, cursor);
+    }
+    if 19 < number {
+        return read(c, cursor, image, bytes);
+    }
+    let s = load(state);
+    let outcome = write(number, c.first, c.second, s, image, ops, bytes);
+    let answer = outcome.answer;
+    let said = said::of_answer(answer, outcome.ops as u64);
+    if said.word != REFUSED {
+        save(outcome.state, 0, TABLE_SIZE, state);
+    }
+    Told { said, cursor }
 }

@@ -1,110 +1,103 @@
 // The program replay: reads a script of calls from standard input, makes each call on its own image, op buffer, state
 // and cursor, and prints what each call answered and left behind. docs/REPLAY.md has the script's words and the lines.
-// The contracts say only that the used parts stay inside the arrays.
 mod calls;
 mod said;
 
+use calls::make;
+use drivelog::Cursor;
 use script::input;
+use script::input::Command;
 use script::input::MAX_BYTES;
 use script::input::MAX_IMAGE;
 use script::input::MAX_OPS;
 use script::limited;
-use script::numbers::NUMBERS;
 use script::output::TEXT_SIZE;
-use script::print;
-use script::setup;
+use script::print::print;
 use script::setup::fill_words;
-ghost use Prim.Native.Nat.{_≤_};
-ghost use lib.ListN.{length};
+use script::setup::set;
+use statewords::STATE_WORDS;
 
-// Carries a command out on the used words. `bytes` are those of a copy or of a fetch.
+// Carries a command out on the used words, and answers the cursor after it. `bytes` are those of a copy or of a fetch.
 fn act(
-    number: u64,
-    args: &[u64; 6],
-    numbers: &mut [u64; NUMBERS],
-    cursor: &mut [u64; 6],
+    c: Command,
+    cursor: Cursor,
+    state: &mut [u64; STATE_WORDS],
     image: &mut [u64],
     ops: &mut [u64],
     bytes: &mut [u8],
     out: &mut [u8; TEXT_SIZE],
-) {
-    if number < 10 {
-        setup::set(number, args, numbers, cursor, image);
-        return;
-    }
-    if number < 20 {
-        calls::write(number, args, numbers, image, ops, bytes, out);
-        return;
-    }
-    if number < 30 {
-        calls::read(number, args, numbers, cursor, image, ops, bytes, out);
-        return;
-    }
-    if number == 30 {
-        print::print_words(out, image, args[0], args[1]);
-        return;
-    }
-    print::print_state(out, numbers);
+) -> Cursor {
+    set(c, state, image);
+    let told = make(c, cursor, state, image, ops, bytes);
+    print(out, c, told.said, state, image, ops, bytes);
+    told.cursor
 }
 
-// Carries a command out: `n` words of the image and `t` of the op buffer are used. The bytes of a copy or of a fetch,
-// its third argument, are within the limit.
+// What is kept from command to command beside the state: the cursor, and how many words of the image and of the op
+// buffer are used.
+struct Kept {
+    cursor: Cursor,
+    image_used: u64,
+    ops_used: u64,
+}
+
+// Carries a command out on the used words, and on as many bytes as its third argument says, those of a copy or of a
+// fetch. All are within the limits.
 fn carry_out(
-    number: u64,
-    args: &[u64; 6],
-    numbers: &mut [u64; NUMBERS],
-    cursor: &mut [u64; 6],
+    c: Command,
+    kept: Kept,
+    state: &mut [u64; STATE_WORDS],
     image: &mut [u64],
-    n: usize,
     ops: &mut [u64],
-    t: usize,
     bytes: &mut [u8],
     out: &mut [u8; TEXT_SIZE],
-)
-    requires { ⌜ (n ≤ length (now image)) × (t ≤ length (now ops)) ⌝ }
-{
-    let m = limited(args[2], bytes.len());
-    act(
-        number,
-        args,
-        numbers,
-        cursor,
+) -> Kept {
+    let image_used = fill_words(image, kept.image_used, c.number == 1, c.first, c.second);
+    let ops_used = fill_words(ops, kept.ops_used, c.number == 3, c.first, c.second);
+    let n = limited(image_used, image.len());
+    let t = limited(ops_used, ops.len());
+    let m = limited(c.third, bytes.len());
+    let cursor = act(
+        c,
+        kept.cursor,
+        state,
         &mut image[..n],
         &mut ops[..t],
         &mut bytes[..m],
         out,
     );
+    Kept {
+        cursor,
+        image_used,
+        ops_used,
+    }
 }
 
 // Carries out the commands of the script, from an image and an op buffer of no words and a state and a cursor all
 // zero. A proved loop has to end, and nothing says that the input does, so it counts its turns down from a number that
 // no run uses up.
 fn run(image: &mut [u64], ops: &mut [u64], bytes: &mut [u8], out: &mut [u8; TEXT_SIZE]) {
-    let mut numbers = [0u64; NUMBERS];
-    let mut cursor = [0u64; 6];
-    let mut args = [0u64; 6];
-    let mut n: usize = 0;
-    let mut t: usize = 0;
+    let mut state = [0u64; STATE_WORDS];
+    let cursor = Cursor {
+        pos: 0,
+        lsn: 0,
+        used: 0,
+        count: 0,
+        last_epoch: 0,
+        superline_epoch: 0,
+    };
+    let mut kept = Kept {
+        cursor,
+        image_used: 0,
+        ops_used: 0,
+    };
     let mut turns: u64 = 18446744073709551615;
     while turns > 0 {
-        let number = input::read_command(&mut args, bytes);
-        if number == 0 {
+        let c = input::read_command(bytes);
+        if c.number == 0 {
             return;
         }
-        n = fill_words(image, n, number == 1, args[0], args[1]);
-        t = fill_words(ops, t, number == 3, args[0], args[1]);
-        carry_out(
-            number,
-            &args,
-            &mut numbers,
-            &mut cursor,
-            image,
-            n,
-            ops,
-            t,
-            bytes,
-            out,
-        );
+        kept = carry_out(c, kept, &mut state, image, ops, bytes, out);
         turns -= 1;
     }
 }

@@ -5,32 +5,40 @@ use drivelog::Fetched;
 use drivelog::Opened;
 use drivelog::Refusal;
 use drivelog::Step;
+use script::input::Command;
 use script::print::Said;
 
-// The words of answers, each by its place in the text of `script::print::put_answer`.
-const OK: u64 = 0;
+// The words of answers, each by its place in the text of `script::output::put_word`.
+const OK: u64 = 23;
 
-const DURABLE: u64 = 1;
+const DURABLE: u64 = 24;
 
-const DEFERRED: u64 = 2;
+const DEFERRED: u64 = 25;
 
-const RECORD: u64 = 3;
+const RECORD: u64 = 26;
 
-const END: u64 = 4;
+const END: u64 = 27;
 
-pub const REFUSED: u64 = 5;
+pub const REFUSED: u64 = 28;
+
+// What a call answered, and the cursor to go on with.
+pub struct Told {
+    pub said: Said,
+    pub cursor: Cursor,
+}
 
 // An answer with up to two numbers.
-fn short(word: u64, count: u64, first: u64, second: u64) -> Said {
+fn short(word: u64, count: u64, first: u64, second: u64, ops: u64) -> Said {
     Said {
         word,
         count,
         numbers: [first, second, 0, 0, 0, 0],
         damage: 0,
+        ops,
     }
 }
 
-// A refusal: its number, its detail, and the test of a damaged record.
+// A refusal: its number, its detail, and the test of a damaged record. A refused call makes no ops.
 fn refused(why: Refusal) -> Said {
     let number = drivelog::number_of(why);
     let detail = drivelog::detail_of(why);
@@ -39,39 +47,39 @@ fn refused(why: Refusal) -> Said {
         count: 2,
         numbers: [number, detail, 0, 0, 0, 0],
         damage: drivelog::damage_of(why),
+        ops: 0,
     }
 }
 
-// The answer of a writing call.
-pub fn of_answer(answer: Answer) -> Said {
+// The answer of a writing call, with its count of ops.
+pub fn of_answer(answer: Answer, ops: u64) -> Said {
     match answer {
-        Answer::Done => short(OK, 0, 0, 0),
-        Answer::Reserved(lsn, pos) => short(OK, 2, lsn, pos),
-        Answer::Durable => short(DURABLE, 0, 0, 0),
-        Answer::Deferred => short(DEFERRED, 0, 0, 0),
+        Answer::Done => short(OK, 0, 0, 0, ops),
+        Answer::Reserved(lsn, pos) => short(OK, 2, lsn, pos, ops),
+        Answer::Durable => short(DURABLE, 0, 0, 0, ops),
+        Answer::Deferred => short(DEFERRED, 0, 0, 0, ops),
         Answer::Refused(why) => refused(why),
     }
 }
 
-// Puts a cursor's numbers into the one that replay keeps.
-fn save_cursor(cursor: &mut [u64; 6], c: Cursor) {
-    cursor[0] = c.pos;
-    cursor[1] = c.lsn;
-    cursor[2] = c.used;
-    cursor[3] = c.count;
-    cursor[4] = c.last_epoch;
-    cursor[5] = c.superline_epoch;
+// An answer of six numbers.
+fn long(word: u64, numbers: [u64; 6]) -> Said {
+    Said {
+        word,
+        count: 6,
+        numbers,
+        damage: 0,
+        ops: 0,
+    }
 }
 
-// The answer of open. Its cursor is kept.
-pub fn of_opened(opened: Opened, cursor: &mut [u64; 6]) -> Said {
+// The answer of open, with its cursor.
+pub fn of_opened(opened: Opened, cursor: Cursor) -> Told {
     match opened {
         Opened::At(c) => {
-            save_cursor(cursor, c);
-            Said {
-                word: OK,
-                count: 6,
-                numbers: [
+            let said = long(
+                OK,
+                [
                     c.pos,
                     c.lsn,
                     c.used,
@@ -79,34 +87,58 @@ pub fn of_opened(opened: Opened, cursor: &mut [u64; 6]) -> Said {
                     c.last_epoch,
                     c.superline_epoch,
                 ],
-                damage: 0,
-            }
+            );
+            Told { said, cursor: c }
         }
-        Opened::Refused(why) => refused(why),
+        Opened::Refused(why) => {
+            let said = refused(why);
+            Told { said, cursor }
+        }
     }
 }
 
-// The answer of next. The cursor behind a record is kept.
-pub fn of_step(step: Step, cursor: &mut [u64; 6]) -> Said {
+// The answer of next, with the cursor behind a record.
+pub fn of_step(step: Step, cursor: Cursor) -> Told {
     match step {
         Step::Record(f, behind) => {
-            save_cursor(cursor, behind);
-            Said {
-                word: RECORD,
-                count: 6,
-                numbers: [f.pos, f.lsn, f.kind, f.length, f.mark, f.epoch],
-                damage: 0,
+            let said = long(RECORD, [f.pos, f.lsn, f.kind, f.length, f.mark, f.epoch]);
+            Told {
+                said,
+                cursor: behind,
             }
         }
-        Step::End(lsn) => short(END, 1, lsn, 0),
-        Step::Refused(why) => refused(why),
+        Step::End(lsn) => {
+            let said = short(END, 1, lsn, 0, 0);
+            Told { said, cursor }
+        }
+        Step::Refused(why) => {
+            let said = refused(why);
+            Told { said, cursor }
+        }
     }
 }
 
 // The answer of fetch.
 pub fn of_fetched(fetched: Fetched) -> Said {
     match fetched {
-        Fetched::Done => short(OK, 0, 0, 0),
+        Fetched::Done => short(OK, 0, 0, 0, 0),
         Fetched::Refused(why) => refused(why),
     }
+}
+
+// Where no call is made nothing is said. Command 6 is another cursor.
+pub fn of_none(c: Command, cursor: Cursor) -> Told {
+    let said = short(OK, 0, 0, 0, 0);
+    if c.number == 6 {
+        let set = Cursor {
+            pos: c.first,
+            lsn: c.second,
+            used: c.third,
+            count: c.fourth,
+            last_epoch: c.fifth,
+            superline_epoch: c.sixth,
+        };
+        return Told { said, cursor: set };
+    }
+    Told { said, cursor }
 }

@@ -1,22 +1,17 @@
-// Digests of lists of values: from 7 on, each value x takes h to (31 h + x mod p) mod p, p the prime 2^31 − 1.
-// The contracts say that a digest is below the prime, so that the next step does not wrap.
-ghost use Prim.Native.Nat.{_<_};
-
+// Digests of lists of values: from 7 on, each value x takes h to (31 h + x mod p) mod p, p the prime 2^31 − 1. A digest
+// is below the prime; its remainder by it, which is itself, keeps the product from wrapping.
 const PRIME: u64 = 2147483647;
 
-const START: u64 = 7;
+pub const START: u64 = 7;
 
 // The digest with one value more.
-fn with_value(h: u64, x: u64) -> u64
-    requires { ⌜ h < 2147483647 ⌝ }
-    ensures { λ r. ⌜ r < 2147483647 ⌝ }
-{
-    (h * 31 + x % PRIME) % PRIME
+fn with_value(h: u64, x: u64) -> u64 {
+    (h % PRIME * 31 + x % PRIME) % PRIME
 }
 
-// The digest of a list of words.
-pub fn of_words(words: &[u64]) -> u64 {
-    let mut h = START;
+// The digest with a list of words more.
+pub fn with_words(start: u64, words: &[u64]) -> u64 {
+    let mut h = start;
     let mut i: usize = 0;
     while i < words.len() {
         h = with_value(h, words[i]);

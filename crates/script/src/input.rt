@@ -1,5 +1,4 @@
 // Commands of the script, off standard input: each with its arguments, within the limits, and a copy's bytes with it.
-use layout::words::words_from;
 use libc::STDIN_FILENO;
 use libc::STDOUT_FILENO;
 
@@ -9,6 +8,39 @@ pub const MAX_IMAGE: usize = 9000;
 pub const MAX_OPS: usize = 26000;
 
 pub const MAX_BYTES: usize = 2048;
+
+// A command's number, 0 at the end of the script, and its arguments; those that it does not have are 0.
+pub struct Command {
+    pub number: u64,
+    pub first: u64,
+    pub second: u64,
+    pub third: u64,
+    pub fourth: u64,
+    pub fifth: u64,
+    pub sixth: u64,
+}
+
+// A word of the input, if it is there.
+struct Word {
+    value: u64,
+    is_there: bool,
+}
+
+// Reads a word if it is wanted.
+fn read_word(is_wanted: bool) -> Word {
+    if !is_wanted {
+        return Word {
+            value: 0,
+            is_there: true,
+        };
+    }
+    let mut bytes = [0u8; 8];
+    let got = io::read_full(STDIN_FILENO, &mut bytes);
+    Word {
+        value: layout::pack(bytes),
+        is_there: got == 8,
+    }
+}
 
 // Reads `count` bytes rounded up to whole words, and tells whether all were there. They do not fit only where the count
 // exceeds the limit, or in a buffer that is not of whole words itself.
@@ -24,17 +56,8 @@ fn read_bytes(bytes: &mut [u8], count: u64) -> bool {
     got == size
 }
 
-// Reads `count` words, six at most, and tells whether all were there. The others become 0. The remainder is the count
-// itself, and keeps the product from wrapping.
-fn read_words(words: &mut [u64; 6], count: u64) -> bool {
-    let mut bytes = [0u8; 48];
-    let whole = read_bytes(&mut bytes, 8 * (count % 8));
-    words_from(&bytes, words);
-    whole
-}
-
 // How many arguments each command has, by its number; 7 where there is no such command.
-const ARGUMENTS: [u8; 32] = *b"72222667770231210077003777777720";
+const ARGUMENTS: [u8; 32] = *b"02222667770231210077003777777720";
 
 // How many arguments a command has; 7 where there is no such command. The digits' codes leave their values modulo 8.
 fn argument_count(number: u64) -> u64 {
@@ -60,36 +83,58 @@ fn bad(number: u64) -> u64 {
     0
 }
 
-// Reads a command's number and its arguments; those that it does not have become 0. One that the end of the input cuts
-// off counts as the end, which is number 0.
-fn read_call(args: &mut [u64; 6]) -> u64 {
-    if !read_words(args, 1) {
+// Reads a command's number. The end of the input counts as the end of the script.
+fn read_number() -> u64 {
+    let word = read_word(true);
+    if !word.is_there {
         return 0;
     }
-    let number = args[0];
-    if number == 0 {
-        return 0;
+    if argument_count(word.value) == 7 {
+        return bad(word.value);
     }
-    let count = argument_count(number);
-    if 6 < count {
-        return bad(number);
-    }
-    if !read_words(args, count) {
-        return 0;
-    }
-    if is_too_large(number, args[0], args[2]) {
-        return bad(number);
-    }
-    number
+    word.value
 }
 
-// Reads the next command: its number, 0 at the end of the script, its arguments, and the bytes behind a copy.
-pub fn read_command(args: &mut [u64; 6], bytes: &mut [u8]) -> u64 {
-    let number = read_call(args);
+// The number of a command whose arguments are read, once the bytes of a copy are too; 0 if the input cut it off or it
+// exceeds a limit.
+fn accepted(number: u64, is_whole: bool, first: u64, third: u64, bytes: &mut [u8]) -> u64 {
+    if !is_whole {
+        return 0;
+    }
+    if is_too_large(number, first, third) {
+        return bad(number);
+    }
     if number == 12 {
-        if !read_bytes(bytes, args[2]) {
+        if !read_bytes(bytes, third) {
             return 0;
         }
     }
     number
+}
+
+// Reads the next command, and the bytes behind a copy.
+pub fn read_command(bytes: &mut [u8]) -> Command {
+    let number = read_number();
+    let count = argument_count(number);
+    let first = read_word(0 < count);
+    let second = read_word(1 < count);
+    let third = read_word(2 < count);
+    let fourth = read_word(3 < count);
+    let fifth = read_word(4 < count);
+    let sixth = read_word(5 < count);
+    let is_whole = first.is_there
+        & second.is_there
+        & third.is_there
+        & fourth.is_there
+        & fifth.is_there
+        & sixth.is_there;
+    Command {
+        number: accepted(number, is_whole, first.value, third.value, bytes),
+        first: first.value,
+        second: second.value,
+        third: third.value,
+        fourth: fourth.value,
+        fifth: fifth.value,
+        sixth: sixth.value,
+    }
 }

@@ -1,9 +1,8 @@
-// What the program replay reads and prints: the commands of a script, the numbers that they set up, and the lines of
-// text. It makes no call of the log. docs/REPLAY.md has the script's words and the lines. The contracts say only that
-// the used parts stay inside the arrays.
+// What the program replay reads and prints: the commands of a script, what they set up, and the lines of text. It makes
+// no call of the log. Between the calls the state lies in words, as crate statewords has them. docs/REPLAY.md has the
+// script's words and the lines. The contracts say only that the used parts stay inside the arrays.
 pub mod digest;
 pub mod input;
-pub mod numbers;
 pub mod output;
 pub mod print;
 pub mod setup;

@@ -1,139 +1,172 @@
 // What a line shows: a call's name and answer, the ops in the op buffer, the digests, words of the image, the state.
-// The contracts say, as those of output.rt, that the index stays inside the text buffer.
 use crate::digest;
+use crate::input::Command;
 use crate::limited;
-use crate::numbers::FIELDS;
-use crate::numbers::NUMBERS;
 use crate::output::TEXT_SIZE;
 use crate::output::end_line;
 use crate::output::put_byte;
 use crate::output::put_number;
 use crate::output::put_numbers;
-use crate::output::put_text;
 use crate::output::put_word;
 use state::TABLE_SIZE;
-ghost use Prim.Native.Nat.{_+_, _*_, _≤_};
-ghost use lib.ListN.{length};
-ghost use Rattle.script.specs.Text.{Inside};
+use statewords::FIRST_ENTRY;
+use statewords::STATE_WORDS;
+ghost use Prim.Native.Nat.{_<_};
+ghost use Rattle.state.specs.Table.{tableSize};
 
-// An answer's word, how many of the numbers stand behind it, and behind them the test that a damaged record fails, 0 if
-// there is none.
+// What a call answered: its word in the text of `put_word`, how many of the numbers stand behind it, and behind them the
+// test that a damaged record fails, 0 if there is none; and how many ops the call made.
 pub struct Said {
     pub word: u64,
     pub count: u64,
     pub numbers: [u64; 6],
     pub damage: u64,
+    pub ops: u64,
 }
 
-// Begins a line with the name of a call, the word at its number, and its answer, with the word of a damaged record's
-// test.
-pub fn put_answer(out: &mut [u8; TEXT_SIZE], number: u64, said: Said) -> usize
-    ensures { λ r. ⌜ Inside r ⌝ }
+// Words of the lines, by their places in the text of `put_word`; those of a command by its number.
+const NO_WORD: u64 = 0;
+
+const WORDS: u64 = 30;
+
+const STATE: u64 = 31;
+
+const ORDERS: u64 = 32;
+
+const DIGESTS: u64 = 33;
+
+// The five numbers of entry `i` of the table: place, length, kind, stage, epoch.
+fn entry_numbers(state: &[u64; STATE_WORDS], i: usize) -> [u64; 5]
+    requires { ⌜ i < tableSize ⌝ }
 {
-    let names =
-        b"- - - - - - - - - - format reserve copy complete force release releaseall takeup - - open next fetch";
-    let answers = b"ok kept putoff record end refused";
-    let numbers = said.numbers;
-    let named = put_word(out, 0, names, number);
-    let blank = put_byte(out, named, b' ');
-    let answered = put_word(out, blank, answers, said.word);
-    let end = put_numbers(out, answered, &numbers, said.count);
-    if said.damage == 0 {
-        return end;
-    }
-    let tests = b"- mark kind length fit LSN check epoch";
-    let space = put_byte(out, end, b' ');
-    put_word(out, space, tests, said.damage)
+    let at = FIRST_ENTRY + 2 * i;
+    let first = state[at];
+    [
+        first % 65536,
+        first / 65536 % 65536,
+        first / 4294967296 % 65536,
+        first / 281474976710656,
+        state[at + 1],
+    ]
 }
 
-// Puts the count of ops, and each op as it stands in the op buffer.
-pub fn put_ops(out: &mut [u8; TEXT_SIZE], at: usize, ops: &[u64], count: usize) -> usize
-    requires { ⌜ Inside at ⌝ }
-    ensures { λ r. ⌜ Inside r ⌝ }
-{
-    let orders = put_text(out, at, b" orders");
-    let mut next = put_number(out, orders, b' ', count as u64);
-    let end = ops.len() / 3;
-    let mut k: usize = 0;
-    while k < end {
-        if k == count {
-            return next;
-        }
-        let i = 3 * k;
-        next = put_op(out, next, ops[i], ops[i + 1], ops[i + 2]);
-        k += 1;
-    }
-    next
-}
-
-// Puts one op: a store's word and value, or a flush's first word and count.
-fn put_op(out: &mut [u8; TEXT_SIZE], at: usize, tag: u64, word: u64, value: u64) -> usize
-    requires { ⌜ Inside at ⌝ }
-    ensures { λ r. ⌜ Inside r ⌝ }
-{
-    let letter = if tag == 1 { b's' } else { b'f' };
-    let blank = put_byte(out, at, b' ');
-    let next = put_byte(out, blank, letter);
-    let first = put_number(out, next, b' ', word);
-    put_number(out, first, b' ', value)
-}
-
-// Puts the digests of the image, the op buffer and the state, and where there are four also the last, and ends the
-// line.
-pub fn print_digests(
-    out: &mut [u8; TEXT_SIZE],
-    at: usize,
-    image: &[u64],
-    ops: &[u64],
-    numbers: &[u64; NUMBERS],
-    count: u64,
-    last: u64,
-)
-    requires { ⌜ Inside at ⌝ }
-{
-    let digests = [
-        digest::of_words(image),
-        digest::of_words(ops),
-        digest::of_words(numbers),
-        last,
-    ];
-    let next = put_text(out, at, b" =");
-    let end = put_numbers(out, next, &digests, count);
-    end_line(out, end);
-}
-
-// Puts the numbers of a table entry unless it is free: its index, its three numbers, its stage's and its
-// epoch.
-fn put_entry(out: &mut [u8; TEXT_SIZE], at: usize, i: usize, numbers: &[u64]) -> usize
-    requires { ⌜ Inside at × (8 + 5 * i + 5 ≤ length (now numbers)) ⌝ }
-    ensures { λ r. ⌜ Inside r ⌝ }
-{
-    let k = FIELDS + 5 * i;
-    if numbers[k + 3] == 0 {
-        return at;
-    }
-    let blank = put_byte(out, at, b' ');
-    let index = put_number(out, blank, b'[', i as u64);
-    let next = put_numbers(out, index, &numbers[k..], 5);
-    put_byte(out, next, b']')
-}
-
-// Prints the state: its eight fields, and the table entries that are not free.
-pub fn print_state(out: &mut [u8; TEXT_SIZE], numbers: &[u64; NUMBERS]) {
-    let name = put_text(out, 0, b"state");
-    let mut at = put_numbers(out, name, numbers, FIELDS as u64);
+// The digest of the state: of its eight numbers and those of each table entry.
+fn state_digest(state: &[u64; STATE_WORDS]) -> u64 {
+    let words: &[u64] = state;
+    let mut h = digest::with_words(digest::START, &words[..FIRST_ENTRY]);
     let mut i: usize = 0;
     while i < TABLE_SIZE {
-        at = put_entry(out, at, i, numbers);
+        let entry = entry_numbers(state, i);
+        h = digest::with_words(h, &entry);
         i += 1;
     }
-    end_line(out, at);
+    h
+}
+
+// Puts the count of ops, and each op as it stands in the op buffer. The remainder is the count itself, and keeps the
+// product from wrapping.
+fn put_ops(out: &mut [u8; TEXT_SIZE], ops: &[u64], count: u64) {
+    put_word(out, ORDERS);
+    put_number(out, b' ', count);
+    put_numbers(out, NO_WORD, ops, 3 * (count % 65536), true);
+}
+
+// Puts the numbers of a table entry unless it is free: its index, its three numbers, its stage's and its epoch.
+fn put_entry(out: &mut [u8; TEXT_SIZE], i: usize, numbers: [u64; 5]) {
+    if numbers[3] == 0 {
+        return;
+    }
+    put_byte(out, b' ');
+    put_number(out, b'[', i as u64);
+    put_numbers(out, NO_WORD, &numbers, 5, false);
+    put_byte(out, b']');
+}
+
+// Prints the state: its eight numbers, and the table entries that are not free.
+fn print_state(out: &mut [u8; TEXT_SIZE], state: &[u64; STATE_WORDS]) {
+    put_numbers(out, STATE, state, FIRST_ENTRY as u64, false);
+    let mut i: usize = 0;
+    while i < TABLE_SIZE {
+        put_entry(out, i, entry_numbers(state, i));
+        i += 1;
+    }
+    end_line(out);
 }
 
 // Prints `count` words of the image from `first` on, as far as they exist.
-pub fn print_words(out: &mut [u8; TEXT_SIZE], image: &[u64], first: u64, count: u64) {
+fn print_words(out: &mut [u8; TEXT_SIZE], image: &[u64], first: u64, count: u64) {
     let start = limited(first, image.len());
-    let name = put_text(out, 0, b"words");
-    let end = put_numbers(out, name, &image[start..], count);
-    end_line(out, end);
+    put_numbers(out, WORDS, &image[start..], count, false);
+    end_line(out);
+}
+
+// Begins the line of a call: its name and answer, with the word of a damaged record's test.
+fn put_answer(out: &mut [u8; TEXT_SIZE], number: u64, said: Said) {
+    let numbers = said.numbers;
+    put_word(out, number);
+    put_numbers(out, said.word, &numbers, said.count, false);
+    put_word(out, said.damage);
+}
+
+// Ends the line of a call: the digests of the image, the op buffer and the state, and where there are four also that of
+// the output.
+fn print_digests(
+    out: &mut [u8; TEXT_SIZE],
+    count: u64,
+    state: &[u64; STATE_WORDS],
+    image: &[u64],
+    ops: &[u64],
+    output: &[u8],
+) {
+    let digests = [
+        digest::with_words(digest::START, image),
+        digest::with_words(digest::START, ops),
+        state_digest(state),
+        digest::of_bytes(output),
+    ];
+    put_numbers(out, DIGESTS, &digests, count, false);
+    end_line(out);
+}
+
+// Prints the line of a call, with its ops if it is one that writes.
+fn print_call(
+    out: &mut [u8; TEXT_SIZE],
+    number: u64,
+    said: Said,
+    state: &[u64; STATE_WORDS],
+    image: &[u64],
+    ops: &[u64],
+    output: &[u8],
+) {
+    put_answer(out, number, said);
+    if number < 20 {
+        put_ops(out, ops, said.ops);
+    }
+    let count = if number == 22 { 4 } else { 3 };
+    print_digests(out, count, state, image, ops, output);
+}
+
+// Prints the line of a command from 10 on.
+pub fn print(
+    out: &mut [u8; TEXT_SIZE],
+    c: Command,
+    said: Said,
+    state: &[u64; STATE_WORDS],
+    image: &[u64],
+    ops: &[u64],
+    output: &[u8],
+) {
+    let number = c.number;
+    if number < 10 {
+        return;
+    }
+    if number == WORDS {
+        print_words(out, image, c.first, c.second);
+        return;
+    }
+    if number == STATE {
+        print_state(out, state);
+        return;
+    }
+    print_call(out, number, said, state, image, ops, output);
 }

@@ -6,15 +6,16 @@ use Rattle.demo.proofs.carry_out.Statement.{statement}
 use Rattle.demo.proofs.carry_out.Tie as tie
 
 abbrev Inv-loop : tie.InvT-loop
-Inv-loop ops count flushed₀ stored₀ end k₀ flushed stored k = (k ≤ end) × (end ≤ 32)
+Inv-loop ops count cut flushed₀ stored₀ k₀ flushed stored k = k ≤ count
 
 abbrev μ-loop : tie.MeasureT-loop
-μ-loop ops count flushed₀ stored₀ end k₀ flushed stored k = end - k
+μ-loop ops count cut flushed₀ stored₀ k₀ flushed stored k = count - k
 
 pub carry-out-spec : {M : Type 1} → statement M
 carry-out-spec =
     tie.close
-    (tie.spec Inv-loop μ-loop (λ c. λ κs. search needs) (λ c. search needs) (λ c. search needs)
+    (tie.spec Inv-loop μ-loop (λ c. search needs) (λ c. search needs) (λ c. search needs) (λ c. search needs)
     (λ c. search needs) (λ c. search needs) (λ c. search needs) (λ c. search needs) (λ c. search needs)
-    (λ c. search needs) (λ c. search needs) (λ c. search needs) (λ c. λ κs. search needs) (λ c. search needs)
-    (λ c. search needs) (λ c. search needs) (λ c. search needs))
+    (λ c. search needs) (λ c. search needs) (λ c. λ κs. search needs) (λ c. λ κs. search needs)
+    (λ c. search needs) (λ c. search needs) (λ c. search needs) (λ c. search needs) (λ c. search needs)
+    (λ c. search needs))

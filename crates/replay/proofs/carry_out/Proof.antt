@@ -17,6 +17,7 @@ slice-aggregate-act-3 c = front _ _ (search needs)
 pub carry-out-spec : {M : Type 1} → statement M
 carry-out-spec =
     tie.close
-    (tie.spec (λ c. search needs) (λ c. λ κs. search needs) (λ c. search needs) slice-aggregate-act
+    (tie.spec (λ c. λ κs. search needs) (λ c. λ κs. search needs) (λ c. λ κs. search needs)
+    (λ c. λ κs. search needs) (λ c. λ κs. search needs) (λ c. search needs) slice-aggregate-act
     (λ c. search needs) slice-aggregate-act-2 (λ c. search needs) slice-aggregate-act-3
     (λ c. λ κs. search needs) (λ c. search needs) (λ c. search needs) (λ c. search needs) (λ c. search needs))

@@ -11,12 +11,12 @@ use Rattle.demo.proofs.say.listing.Tie as tie
 array-share-prefix-room : tie.Need-array-share-prefix-room
 array-share-prefix-room c = listed-within (c .before .before .before .before .list-image .ensures) (c .before .listed .given .1) (omega arith)
 
-slice-aggregate-text-2 : tie.Need-slice-aggregate-text-2
-slice-aggregate-text-2 c = sym (length-take-le _ _ (listed-within (c .before .before .before .before .before .list-image .ensures) (c .before .before .listed .given .1) (omega arith)))
+slice-aggregate-write-all : tie.Need-slice-aggregate-write-all
+slice-aggregate-write-all c = sym (length-take-le _ _ (listed-within (c .before .before .before .before .before .list-image .ensures) (c .before .before .listed .given .1) (omega arith)))
 
 pub listing-spec : {M : Type 1} → statement M
 listing-spec =
     tie.close
-    (tie.spec (λ c. search needs) (λ c. λ κs. search needs) (λ c. λ κs. search needs) (λ c. search needs)
-    (λ c. λ κs. search needs) (λ c. search needs) array-share-prefix-room slice-aggregate-text-2
-    (λ c. λ κs. search needs) (λ c. search needs) (λ c. search needs) (λ c. search needs))
+    (tie.spec (λ c. λ κs. search needs) (λ c. search needs) (λ c. λ κs. search needs) (λ c. search needs)
+    array-share-prefix-room slice-aggregate-write-all (λ c. λ κs. search needs) (λ c. search needs)
+    (λ c. search needs) (λ c. search needs))

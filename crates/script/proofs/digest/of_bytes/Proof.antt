@@ -1,13 +1,13 @@
--- `script::digest::of_bytes` is safe and ends: the digest stays below the prime.
+-- `script::digest::of_bytes` is safe and ends. The measure is what is left of the bytes.
 -- Assumes nothing.
 use borrow.Author.Needs.{needs}
-use Prim.Native.Nat.{_-_, _≤_, _<_}
+use Prim.Native.Nat.{_-_, _≤_}
 use lib.ListN.{length}
 use Rattle.script.proofs.digest.of_bytes.Statement.{statement}
 use Rattle.script.proofs.digest.of_bytes.Tie as tie
 
 abbrev Inv-loop : tie.InvT-loop
-Inv-loop bytes h₀ i₀ h i = (h < 2147483647) × (i ≤ length bytes)
+Inv-loop bytes h₀ i₀ h i = i ≤ length bytes
 
 abbrev μ-loop : tie.MeasureT-loop
 μ-loop bytes h₀ i₀ h i = length bytes - i

@@ -1,2 +1,0 @@
--- What the contracts of `script` cite.
-pub mod Text
