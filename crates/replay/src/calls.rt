@@ -63,8 +63,8 @@ fn read(c: Command, cursor: Cursor, image: &[u64], output: &mut [u8]) -> Told {
     Told { said, cursor }
 }
 
-// Makes a command's call, if it has one, on the state and the cursor that are kept, and keeps the state after it, unless
-// it was refused. `bytes` are those of a copy or of a fetch.
+// Makes a command's call, if it has one, on the state and the cursor that are kept, and keeps the state after it,
+// unless it was refused. `bytes` are those of a copy or of a fetch.
 pub fn make(
     c: Command,
     cursor: Cursor,

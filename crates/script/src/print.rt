@@ -14,8 +14,8 @@ use statewords::STATE_WORDS;
 ghost use Prim.Native.Nat.{_<_};
 ghost use Rattle.state.specs.Table.{tableSize};
 
-// What a call answered: its word in the text of `put_word`, how many of the numbers stand behind it, and behind them the
-// test that a damaged record fails, 0 if there is none; and how many ops the call made.
+// What a call answered: its word in the text of `put_word`, how many of the numbers stand behind it, and behind them
+// the test that a damaged record fails, 0 if there is none; and how many ops the call made.
 pub struct Said {
     pub word: u64,
     pub count: u64,
