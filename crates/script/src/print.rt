@@ -9,8 +9,10 @@ use crate::output::put_number;
 use crate::output::put_numbers;
 use crate::output::put_word;
 use state::TABLE_SIZE;
+use state::stage_number;
 use statewords::FIRST_ENTRY;
 use statewords::STATE_WORDS;
+use statewords::entry_from;
 ghost use Prim.Native.Nat.{_<_};
 ghost use Rattle.state.specs.Table.{tableSize};
 
@@ -40,13 +42,14 @@ fn entry_numbers(state: &[u64; STATE_WORDS], i: usize) -> [u64; 5]
     requires { ⌜ i < tableSize ⌝ }
 {
     let at = FIRST_ENTRY + 2 * i;
-    let first = state[at];
+    let e = entry_from(state[at], state[at + 1]);
+    let stage = e.stage;
     [
-        first % 65536,
-        first / 65536 % 65536,
-        first / 4294967296 % 65536,
-        first / 281474976710656,
-        state[at + 1],
+        e.pos as u64,
+        e.length as u64,
+        e.kind as u64,
+        stage_number(stage),
+        e.epoch as u64,
     ]
 }
 

@@ -1,8 +1,11 @@
 // The commands that set up what the calls work on: words of the image and the op buffer, the state.
 use crate::input::Command;
+use state::Entry;
 use state::TABLE_SIZE;
 use statewords::FIRST_ENTRY;
 use statewords::STATE_WORDS;
+use statewords::put_entry;
+use statewords::stage_from;
 
 // If a command fills an array, its first `count` words become `value`, or all of them where there are fewer. Answers
 // how many words are used: those, else as many as before.
@@ -30,16 +33,18 @@ pub fn fill_bytes(bytes: &mut [u8], value: u8) {
     }
 }
 
-// A table entry becomes what the arguments say. A number that is no stage's is free; the remainder of the stage is
-// itself, and keeps the sum from wrapping.
+// A table entry becomes what the arguments say. A number that is no stage's is free.
 fn set_entry(state: &mut [u64; STATE_WORDS], c: Command) {
-    let at = FIRST_ENTRY + 2 * ((c.first % TABLE_SIZE as u64) as usize);
-    let stage = if c.fifth < 5 { c.fifth } else { 0 };
-    state[at] = c.second % 65536
-        + 65536 * (c.third % 65536)
-        + 4294967296 * (c.fourth % 65536)
-        + 281474976710656 * (stage % 5);
-    state[at + 1] = c.sixth % 4294967296;
+    let number = if c.fifth < 5 { c.fifth } else { 0 };
+    let stage = stage_from(number);
+    let entry = Entry {
+        pos: (c.second % 65536) as u16,
+        length: (c.third % 65536) as u16,
+        kind: (c.fourth % 65536) as u16,
+        stage,
+        epoch: (c.sixth % 4294967296) as u32,
+    };
+    put_entry((c.first % TABLE_SIZE as u64) as usize, entry, state);
 }
 
 // The commands 2, 4 and 5: a word of the image, one of the eight numbers of the state, a table entry.
