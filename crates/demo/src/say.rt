@@ -50,15 +50,16 @@ const DURABLE: u64 = 6;
 
 const DEFERRED: u64 = 7;
 
-const REFUSED: u64 = 8;
+pub const KEPT: u64 = 8;
 
-pub const KEPT: u64 = 9;
+pub const LOST: u64 = 9;
 
-pub const LOST: u64 = 10;
+pub const CARRIED_OUT: u64 = 10;
 
-pub const CARRIED_OUT: u64 = 11;
+pub const NOT_CARRIED_OUT: u64 = 11;
 
-pub const NOT_CARRIED_OUT: u64 = 12;
+// From here on they are those of refusals.
+const REFUSED: u64 = 100;
 
 // Writes one byte.
 fn put(byte: u8) {
@@ -68,8 +69,13 @@ fn put(byte: u8) {
 
 // Writes the name that has a number.
 fn put_name(mut number: u64) {
+    if REFUSED <= number {
+        io::write_all(STDOUT_FILENO, b"refused ");
+        io::print_decimal(STDOUT_FILENO, number - REFUSED);
+        return;
+    }
     let names: &[u8] = b"(unknown)|(bearing hours)|(motor current)|(part exchanged)|\
-          done|reserved|durable|deferred|refused|\
+          done|reserved|durable|deferred|\
           kept|lost|\
           | (not carried out)|";
     let mut i: usize = 0;
@@ -152,7 +158,7 @@ pub fn name_of(outcome: Outcome) -> u64 {
         Answer::Reserved(_, _) => RESERVED,
         Answer::Durable => DURABLE,
         Answer::Deferred => DEFERRED,
-        Answer::Refused(_) => REFUSED,
+        Answer::Refused(why) => REFUSED + drivelog::number_of(why) % 100,
     }
 }
 
