@@ -17,40 +17,40 @@ c_crates = query creads ccalls
 
 # Says crate by crate how far the proofs are; what the check says is shown only if it fails.
 demo:
-	@mkdir -p target && tests/progress target/demo.log tests/rt check demo
+	@mkdir -p target && tools/progress target/demo.log tools/rt check demo
 	@target/bin/demo
 	@echo
-	@tests/progress target/demo.log make --silent lib
+	@tools/progress target/demo.log make --silent lib
 	@$(MAKE) --silent tool > target/demo.log 2>&1 || { cat target/demo.log; exit 1; }
-	@tests/tool/demo target/bin/drivelog
+	@tests/cli/demo target/bin/drivelog
 
 list:
-	tests/rt check loglist
+	tools/rt check loglist
 	target/bin/loglist < crates/loglist/stdin
 
 load:
-	tests/rt check logload loglist
+	tools/rt check logload loglist
 	target/bin/logload < crates/logload/stdin | target/bin/loglist
 
 # One object of each crate; what a crate does not export is local to its object. One after the other: two rt in one target/ disturb each other.
 lib:
-	for crate in $(c_crates); do tests/rt staticlib $$crate || exit 1; done
+	for crate in $(c_crates); do tools/rt staticlib $$crate || exit 1; done
 	rm -rf target/lib && mkdir -p target/lib
 	cd target/lib && for crate in $(c_crates); do ar x ../staticlib/lib$$crate.a || exit 1; done
 	cd target/lib && ar rcs libdrivelog.a $(c_crates:=.o)
 
 tool: lib
 	mkdir -p target/bin
-	gcc -std=c11 -O2 -Wall -Wextra -Werror -Iinclude -Idriver -o target/bin/drivelog tool/drivelog.c driver/driver.c target/lib/libdrivelog.a
+	gcc -std=c11 -O2 -Wall -Wextra -Werror -Iinclude -Idriver -o target/bin/drivelog cli/drivelog.c driver/driver.c target/lib/libdrivelog.a
 
 prove:
-	tests/rt prove
+	tools/rt prove
 
 test:
 	tests/gate
 
 programs:
-	tests/rt check replay loglist
+	tools/rt check replay loglist
 	cd reference && cargo build --release --offline --quiet
 
 compare: programs
@@ -61,12 +61,12 @@ calls: lib
 	tests/c/run $(SEED) $(SCRIPTS)
 
 why:
-	tests/rt check logwhy
+	tools/rt check logwhy
 	cd reference && cargo build --release --offline --quiet
 	$(reference) why target/bin/logwhy $(SEED) $(SCRIPTS)
 
 loads:
-	tests/rt check logload loglist
+	tools/rt check logload loglist
 	cd reference && cargo build --release --offline --quiet
 	$(reference) load target/bin/logload target/bin/loglist $(SEED) $(SCRIPTS)
 
@@ -82,7 +82,7 @@ speed: programs
 # Each case by turns, as `make lib bench ROUNDS=101`. Where libpmemlog or the archive of `make lib` is not there, a line says so.
 ROUNDS ?= 31
 bench: programs bench-c
-	tests/rt check bench
+	tools/rt check bench
 	cd reference && cargo build --profile plain --offline --quiet --bin plain_bench
 	$(reference) bench target/bin/bench reference/target/plain/plain_bench target/bench/crc target/bench/pmemlog \
 	  --calls target/bench/calls --append target/bench/append --append-pmem target/bench/append-pmem --rounds $(ROUNDS)

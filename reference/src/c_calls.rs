@@ -1,6 +1,6 @@
 //! The calls of slips 1, 4 and 8 as a C program makes them, held against our own.
 //!
-//! The program is tests/c/driver.c, linked with another implementation; its head says how it is asked and what it prints. It runs once
+//! The program is tests/c/queries.c, linked with another implementation; its head says how it is asked and what it prints. It runs once
 //! for each image, and gets that image at two places in memory.
 
 use crate::compare::{difference, output_and_status, Difference};
