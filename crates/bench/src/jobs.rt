@@ -2,7 +2,7 @@
 use crate::log;
 use crate::room;
 use drivelog::State;
-use packing::words_from;
+use layout::words_from;
 ghost use Prim.Native.Nat.{_*_, _≤_};
 ghost use lib.ListN.{length};
 

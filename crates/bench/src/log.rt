@@ -7,8 +7,8 @@ use drivelog::format;
 use drivelog::recover;
 use drivelog::release;
 use drivelog::reserve;
-use listing::Listed;
-use listing::list_image;
+use list_image::Listed;
+use list_image::list_image;
 ghost use Prim.Native.Nat.{_≤_};
 ghost use lib.ListN.{length};
 

@@ -7,8 +7,8 @@ mod log;
 mod room;
 
 use jobs::Job;
-use listing::listing_room;
-use packing::words_from;
+use layout::words_from;
+use list_image::listing_room;
 
 // Reads a job. Input that is too short makes job 0, which there is not.
 fn read_job() -> Job {

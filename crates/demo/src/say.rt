@@ -4,9 +4,9 @@ use crate::WORDS;
 use drivelog::Answer;
 use drivelog::Outcome;
 use libc::STDOUT_FILENO;
-use listing::Listed;
-use listing::list_image;
-use listing::listing_room;
+use list_image::Listed;
+use list_image::list_image;
+use list_image::listing_room;
 
 // The numbers of the passages, in the story's order.
 pub const OPENING: u64 = 0;

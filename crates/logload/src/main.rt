@@ -3,9 +3,9 @@
 // reads and writes is beyond any contract.
 use libc::STDIN_FILENO;
 use libc::STDOUT_FILENO;
-use lines::refused_line;
-use load::Answer;
-use load::load_text;
+use list_lines::refused_line;
+use load_image::Answer;
+use load_image::load_text;
 use refusal::Refusal;
 use refusal::number_of;
 ghost use mathlib.Core.Path.{_≡_};

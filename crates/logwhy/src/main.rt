@@ -3,8 +3,8 @@
 // that it reads and prints is beyond any contract.
 use libc::STDIN_FILENO;
 use libc::STDOUT_FILENO;
-use reason::LINE_ROOM;
-use reason::why_line;
+use why_listed::LINE_ROOM;
+use why_listed::why_line;
 ghost use mathlib.Core.Path.{_≡_};
 ghost use lib.ListN.{length};
 

@@ -6,11 +6,11 @@ use drivelog::Cursor;
 use drivelog::Outcome;
 use drivelog::State;
 use drivelog::TABLE_SIZE;
-use holding::load;
-use holding::save;
-use script::input::Command;
-use script::setup::fill_bytes;
-use statewords::STATE_WORDS;
+use replay_script::input::Command;
+use replay_script::setup::fill_bytes;
+use words_state::STATE_WORDS;
+use words_state::load;
+use words_state::save;
 
 // Makes a writing call, with its first two arguments.
 fn write(

@@ -5,8 +5,8 @@ use drivelog::Fetched;
 use drivelog::Opened;
 use drivelog::Refusal;
 use drivelog::Step;
-use script::input::Command;
-use script::print::Said;
+use replay_script::input::Command;
+use replay_script::print::Said;
 
 // The words of answers, each by its place in the text of `script::output::put_word`.
 const OK: u64 = 23;

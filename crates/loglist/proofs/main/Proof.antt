@@ -1,9 +1,9 @@
 -- `loglist::main` meets its contract: it is safe, and ends if its reads and writes do. The text ends within its room.
--- Cites AnswerLaws.antt of listing.
+-- Cites AnswerLaws.antt of list_image.
 use mathlib.Core.Path.{sym}
 use native.Mathlib.Omega.{arith}
 use lib.Seq.{length-take-le}
-use Rattle.listing.proofs.AnswerLaws.{listed-within}
+use Rattle.list_image.proofs.AnswerLaws.{listed-within}
 use borrow.Author.Needs.{needs}
 use Rattle.loglist.proofs.main.Statement.{statement}
 use Rattle.loglist.proofs.main.Tie as tie

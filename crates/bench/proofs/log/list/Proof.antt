@@ -1,7 +1,7 @@
--- `bench::log::list` is safe, and the text ends within the buffer. Cites AnswerLaws.antt of listing.
+-- `bench::log::list` is safe, and the text ends within the buffer. Cites AnswerLaws.antt of list_image.
 use borrow.Author.Needs.{needs}
 use native.Mathlib.Omega.{arith}
-use Rattle.listing.proofs.AnswerLaws.{listed-within}
+use Rattle.list_image.proofs.AnswerLaws.{listed-within}
 use Rattle.bench.proofs.log.list.Statement.{statement}
 use Rattle.bench.proofs.log.list.Tie as tie
 

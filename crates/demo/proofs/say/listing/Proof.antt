@@ -1,10 +1,10 @@
 -- `demo::say::listing` is safe: the text ends within its room.
--- Cites AnswerLaws.antt of listing.
+-- Cites AnswerLaws.antt of list_image.
 use borrow.Author.Needs.{needs}
 use mathlib.Core.Path.{sym}
 use native.Mathlib.Omega.{arith}
 use lib.Seq.{length-take-le}
-use Rattle.listing.proofs.AnswerLaws.{listed-within}
+use Rattle.list_image.proofs.AnswerLaws.{listed-within}
 use Rattle.demo.proofs.say.listing.Statement.{statement}
 use Rattle.demo.proofs.say.listing.Tie as tie
 

@@ -1,0 +1,5 @@
+-- The modules of laws: `Xor` and `Linear` of the exclusive or and the register, `Arms` for the proofs of the rows, `Laws` of
+pub mod Xor
+pub mod Linear
+pub mod Arms
+pub mod Laws
