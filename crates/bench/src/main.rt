@@ -26,7 +26,7 @@ fn read_job() -> Job {
     }
 }
 
-// Prints what a job came to.
+// Prints the result of a job.
 fn print(microseconds: u64, digest: u64) {
     io::print_decimal(libc::STDOUT_FILENO, microseconds);
     io::write_all(libc::STDOUT_FILENO, b" ");

@@ -3,7 +3,7 @@
 // two are proved side by side. A row is a `match` on numbers, which the compiler turns into a table of the program; a
 // const array would be stored on the stack by each call that names it. The arms begin at 256, since the compiler takes
 // a match on the numbers below 256 for one on signed bytes, and adds an instruction to each look. Each arm returns, and
-// the byte is moved up in its own place: what is to be proved of an arm is then a third less than behind a `let` and
+// the byte is moved up in its own place: what is to be proved of an arm is then a third less than after a `let` and
 // with a value of the match. The contracts cite crate crc_spec, specs/Bits.antt.
 ghost use mathlib.Core.Path.{_≡_};
 ghost use Prim.Native.Nat.{_<_};

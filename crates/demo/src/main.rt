@@ -1,6 +1,6 @@
 // The program demo: the drive log in a minute, and an example of how to call it. A drive program writes records by the
 // calls of crate drivelog, a driver carries their ops out on a memory module, power fails in the middle of a force, and
-// the log is recovered from what the module holds. `reference demo` tells the same story; the file stdout is its text.
+// the log is recovered from what the module holds. `reference demo` says the same story; the file stdout is its text.
 // The contracts say only what keeps indexes inside their arrays.
 mod say;
 
@@ -25,7 +25,7 @@ const OPS_WORDS: usize = 3 * MAX_OPS;
 // The frequency with which any LSN may be forced.
 const EVERY_LSN: u64 = 1;
 
-// The story's records: how many, the kind of each, and a row of bytes with its data and zeros behind.
+// The story's records: how many, the kind of each, and a row of bytes with its data and zeros after.
 const RECORDS: usize = 6;
 
 const KINDS: [u64; RECORDS] = [1, 2, 3, 1, 2, 1];

@@ -1,5 +1,5 @@
 // The program replay: reads a script of calls from standard input, makes each call on its own image, op buffer, state
-// and cursor, and prints what each call answered and left behind. docs/REPLAY.md has the script's words and the lines.
+// and cursor, and prints what each call answered and left after. docs/REPLAY.md has the script's words and the lines.
 mod calls;
 mod said;
 

@@ -97,7 +97,7 @@ pub fn of_opened(opened: Opened, cursor: Cursor) -> Told {
     }
 }
 
-// The answer of next, with the cursor behind a record.
+// The answer of next, with the cursor after a record.
 pub fn of_step(step: Step, cursor: Cursor) -> Told {
     match step {
         Step::Record(f, behind) => {

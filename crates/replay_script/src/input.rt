@@ -42,7 +42,7 @@ fn read_word(is_wanted: bool) -> Word {
     }
 }
 
-// Reads `count` bytes rounded up to whole words, and tells whether all were there. They do not fit only where the count
+// Reads `count` bytes rounded up to whole words, and says whether all were there. They do not fit only where the count
 // exceeds the limit, or in a buffer that is not of whole words itself.
 fn read_bytes(bytes: &mut [u8], count: u64) -> bool {
     if (bytes.len() as u64) < count {
@@ -112,7 +112,7 @@ fn accepted(number: u64, is_whole: bool, first: u64, third: u64, bytes: &mut [u8
     number
 }
 
-// Reads the next command, and the bytes behind a copy.
+// Reads the next command, and the bytes after a copy.
 pub fn read_command(bytes: &mut [u8]) -> Command {
     let number = read_number();
     let count = argument_count(number);

@@ -26,7 +26,7 @@ pub fn put_byte(out: &mut [u8; TEXT_SIZE], byte: u8) {
     }
 }
 
-// The words of all lines, each with the blank before it and a slash behind it: the tests of a damaged record from 1 on,
+// The words of all lines, each with the blank before it and a slash after it: the tests of a damaged record from 1 on,
 // each command's at its number, the answers from 23 on.
 const WORDS_SIZE: usize = 196;
 
@@ -73,7 +73,7 @@ const STORE: u64 = 34;
 
 const FLUSH: u64 = 35;
 
-// Puts a number behind a blank, or if it begins an op the word for what that does.
+// Puts a number after a blank, or if it begins an op the word for what that does.
 fn put_value(out: &mut [u8; TEXT_SIZE], value: u64, begins_op: bool) {
     if begins_op {
         put_word(out, if value == 1 { STORE } else { FLUSH });

@@ -16,7 +16,7 @@ use words_state::entry_from;
 ghost use Prim.Native.Nat.{_<_};
 ghost use Rattle.state.specs.Table.{tableSize};
 
-// What a call answered: its word in the text of `put_word`, how many of the numbers stand behind it, and behind them
+// What a call answered: its word in the text of `put_word`, how many of the numbers stand after it, and after them
 // the test that a damaged record fails, 0 if there is none; and how many ops the call made.
 pub struct Said {
     pub word: u64,

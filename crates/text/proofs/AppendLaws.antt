@@ -1,4 +1,4 @@
--- Texts put one behind another: nothing, one byte, two texts in a row, and one byte more of a byte string.
+-- Texts put one after another: nothing, one byte, two texts in a row, and one byte more of a byte string.
 -- Cites specs/Text.antt.
 use mathlib.Core.Path.{_≡_, refl, sym, ap, _∙_}
 use mathlib.Core.List.{List, [], _∷_, _++_, append-assoc, append-nil}
@@ -27,7 +27,7 @@ appended-one at a x h = record {
   room = length-set a at x;
 }
 
--- one text behind another
+-- one text after another
 pub appended-both : {at r t : ℕ} {a b c s u : List ℕ} → Appended at r a b s → Appended r t b c u → Appended at t a c (s ++ u)
 appended-both {at} {r} {t} {a} {b} {c} {s} {u} p q =
     let l = length-append s u in
