@@ -5,7 +5,7 @@
  * which test a damaged record fails. Records that the drive has released are not listed. What the bytes mean is in docs/FORMAT.md. Link
  * with target/lib/libdrivelog.a, which `make lib` writes.
  *
- * Every call answers for every input, as document 01, slips 1, 4 and 8 of document 02 and crates/query/specs define it; that is proved.
+ * Every call answers for every input, as document 01, slips 1, 4 and 8 of document 02 and crates/c_query/specs define it; that is proved.
  * There is no set-up, no handle and nothing to free. A call keeps nothing, allocates nothing and writes nowhere but to the output or the
  * rows, so calls may run in several threads at once as long as nobody writes the image meanwhile.
  *
@@ -207,7 +207,7 @@ int64_t drivelog_payload_at(const uint8_t *image, size_t bytes, uint64_t pos, ui
  * A call returns 0 or more, or minus the number of a refusal. A call that declines alters no word that it is lent but the reply's. A
  * reply of fewer than four words is declined before all else with DRIVELOG_OUTPUT_SHORT, and then nothing is altered.
  *
- * Every call answers for every input, as crates/ccalls/specs and creads/specs define it over crates/journal/specs; that is proved, and
+ * Every call answers for every input, as crates/c_write/specs and c_read/specs define it over crates/journal/specs; that is proved, and
  * so is what a crash leaves of a log that is written so (docs/PROOF.md). Counts are of words, not bytes; an image's words are
  * little-endian in bytes.
  *

@@ -1,5 +1,5 @@
--- The arms of a row: what an arm that is taken says of the byte, and that there is no other arm to take. A row's 256 registers
--- follow from those of the 16 low and of the 16 high digits, since n bits are linear.
+-- The arms of a row: what an arm that is taken says of the byte, and that there is no other arm to take. A row's 256
+-- registers follow from those of the 16 low and of the 16 high digits, since n bits are linear.
 use mathlib.Core.Path.{_≡_, sym, ap, ap₂, _∙_}
 use mathlib.Core.List.{List, [], _∷_}
 use Prim.Native.Nat.{ℕ, zero, suc, _+_, _*_, _/_, _%_, _≤_, _<_}
@@ -36,7 +36,8 @@ Arm n ds = (k b : ℕ) → b < 256 → 256 + b ≡ 256 + k → mixed ds k ≡ cr
 pub arm : (n : ℕ) → Arm n (digits n)
 arm n k b h e =
     ap₂ bitXor
-    (listed-at (λ i. crcBits n (i * 16)) 16 0 (k / 16) (omega arith) ∙ ap (crcBits n) {x = (0 + k / 16) * 16} {y = b / 16 * 16} (omega arith))
+    (listed-at (λ i. crcBits n (i * 16)) 16 0 (k / 16) (omega arith)
+    ∙ ap (crcBits n) {x = (0 + k / 16) * 16} {y = b / 16 * 16} (omega arith))
     (listed-at (crcBits n) 16 0 (k % 16) (omega arith) ∙ ap (crcBits n) {x = 0 + k % 16} {y = b % 16} (omega arith))
     ∙ sym (linear n (b / 16 * 16) (b % 16))
     ∙ ap (crcBits n) (sym (xor-split b 4))

@@ -1,5 +1,5 @@
--- CRC-32 over bytes. Document 01: "CRC-32 (ITU-T V.42): bits least significant first, reflected polynomial EDB88320 hex,
--- start and final exclusive-or FFFFFFFF hex." What a bit does is in Bits.antt.
+-- CRC-32 over bytes. Document 01: "CRC-32 (ITU-T V.42): bits least significant first, reflected polynomial EDB88320
+-- hex, start and final exclusive-or FFFFFFFF hex." What a bit does is in Bits.antt.
 use mathlib.Core.List.{List, [], _∷_}
 use Prim.Native.Nat.{ℕ}
 use lib.Bits.{bitXor}

@@ -37,7 +37,7 @@ fn read_word(is_wanted: bool) -> Word {
     let mut bytes = [0u8; 8];
     let got = io::read_full(STDIN_FILENO, &mut bytes);
     Word {
-        value: packing::pack(bytes),
+        value: layout::pack(bytes),
         is_there: got == 8,
     }
 }

@@ -14,10 +14,18 @@ abbrev μ-loop : tie.MeasureT-loop
 μ-loop state₀ image₀ ops₀ flushed₀ stored₀ durable₀ k₀ t11 state image ops flushed stored durable k = 6 - k
 
 loop-less : tie.Need-loop-less Inv-loop μ-loop
-loop-less c = omega (arith, c .before .before .before .before .before .before .before .before .before .before .before .before .before .before .before .loop-test .taken)
+loop-less c = omega (
+  arith,
+  c .before .before .before .before .before .before .before .before .before .before .before .before .before .before
+      .before .loop-test .taken,
+)
 
 loop-again : tie.Need-loop-again Inv-loop μ-loop
-loop-again c = omega (arith, c .before .before .before .before .before .before .before .before .before .before .before .before .before .before .before .loop-test .taken)
+loop-again c = omega (
+  arith,
+  c .before .before .before .before .before .before .before .before .before .before .before .before .before .before
+      .before .loop-test .taken,
+)
 
 pub write-all-spec : {M : Type 1} → statement M
 write-all-spec =

@@ -9,10 +9,13 @@ use Rattle.loglist.proofs.main.Statement.{statement}
 use Rattle.loglist.proofs.main.Tie as tie
 
 array-share-prefix-text : tie.Need-array-share-prefix-text
-array-share-prefix-text c = listed-within (c .before .before .before .before .list-bytes .ensures) (c .before .listed .given .1) (omega arith)
+array-share-prefix-text c =
+    listed-within (c .before .before .before .before .list-bytes .ensures) (c .before .listed .given .1) (omega arith)
 
 slice-aggregate-write-all : tie.Need-slice-aggregate-write-all
-slice-aggregate-write-all c = sym (length-take-le _ _ (listed-within (c .before .before .before .before .before .list-bytes .ensures) (c .before .before .listed .given .1) (omega arith)))
+slice-aggregate-write-all c =
+    sym (length-take-le _ _ (listed-within (c .before .before .before .before .before .list-bytes .ensures)
+    (c .before .before .listed .given .1) (omega arith)))
 
 pub main-spec : {M : Type 1} → statement M
 main-spec =

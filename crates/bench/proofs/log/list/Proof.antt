@@ -6,7 +6,10 @@ use Rattle.bench.proofs.log.list.Statement.{statement}
 use Rattle.bench.proofs.log.list.Tie as tie
 
 returns : tie.Need-returns
-returns c = let within = listed-within (c .before .before .before .before .before .list-image .ensures) (c .before .listed .given .1) (omega arith) in omega arith
+returns c =
+    let within = listed-within (c .before .before .before .before .before .list-image .ensures)
+    (c .before .listed .given .1) (omega arith) in
+    omega arith
 
 pub list-spec : {M : Type 1} → statement M
 list-spec =

@@ -9,10 +9,13 @@ use Rattle.demo.proofs.say.listing.Statement.{statement}
 use Rattle.demo.proofs.say.listing.Tie as tie
 
 array-share-prefix-room : tie.Need-array-share-prefix-room
-array-share-prefix-room c = listed-within (c .before .before .before .before .list-image .ensures) (c .before .listed .given .1) (omega arith)
+array-share-prefix-room c =
+    listed-within (c .before .before .before .before .list-image .ensures) (c .before .listed .given .1) (omega arith)
 
 slice-aggregate-write-all : tie.Need-slice-aggregate-write-all
-slice-aggregate-write-all c = sym (length-take-le _ _ (listed-within (c .before .before .before .before .before .list-image .ensures) (c .before .before .listed .given .1) (omega arith)))
+slice-aggregate-write-all c =
+    sym (length-take-le _ _ (listed-within (c .before .before .before .before .before .list-image .ensures)
+    (c .before .before .listed .given .1) (omega arith)))
 
 pub listing-spec : {M : Type 1} → statement M
 listing-spec =

@@ -1,4 +1,4 @@
--- `script::digest::of_bytes` is safe and ends. The measure is what is left of the bytes.
+-- `replay_script::digest::of_bytes` is safe and ends. The measure is what is left of the bytes.
 -- Assumes nothing.
 use borrow.Author.Needs.{needs}
 use Prim.Native.Nat.{_-_, _≤_}

@@ -1,4 +1,4 @@
--- `script::digest::with_words` is safe and ends. The measure is what is left of the words.
+-- `replay_script::digest::with_words` is safe and ends. The measure is what is left of the words.
 -- Assumes nothing.
 use borrow.Author.Needs.{needs}
 use Prim.Native.Nat.{_-_, _≤_}

@@ -1,4 +1,4 @@
--- `script::input::read_bytes` is safe: what is read lies inside the buffer.
+-- `replay_script::input::read_bytes` is safe: what is read lies inside the buffer.
 -- Assumes nothing.
 use borrow.Author.Needs.{needs}
 use Rattle.io.proofs.Counting.{front}

@@ -1,4 +1,4 @@
--- `script::output::put_number` is safe and ends. The measure is what is left of the digits' places.
+-- `replay_script::output::put_number` is safe and ends. The measure is what is left of the digits' places.
 -- Assumes nothing.
 use borrow.Author.Needs.{needs}
 use Prim.Native.Nat.{_-_, _≤_}

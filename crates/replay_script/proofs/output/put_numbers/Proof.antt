@@ -1,4 +1,4 @@
--- `script::output::put_numbers` is safe and ends. The measure is what is left of the numbers.
+-- `replay_script::output::put_numbers` is safe and ends. The measure is what is left of the numbers.
 -- Assumes nothing.
 use borrow.Author.Needs.{needs}
 use Prim.Native.Nat.{_-_, _≤_}

@@ -1,4 +1,4 @@
--- `script::output::write_front` is safe: what is written out lies inside the text.
+-- `replay_script::output::write_front` is safe: what is written out lies inside the text.
 -- Assumes nothing.
 use borrow.Author.Needs.{needs}
 use Rattle.io.proofs.Counting.{front}

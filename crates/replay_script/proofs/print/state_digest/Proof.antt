@@ -1,4 +1,4 @@
--- `script::print::state_digest` is safe and ends. The measure is what is left of the table.
+-- `replay_script::print::state_digest` is safe and ends. The measure is what is left of the table.
 -- Assumes nothing.
 use borrow.Author.Needs.{needs}
 use Prim.Native.Nat.{_-_, _≤_}

@@ -1,4 +1,4 @@
--- `script::setup::fill_bytes` is safe and ends: the slice keeps its length.
+-- `replay_script::setup::fill_bytes` is safe and ends: the slice keeps its length.
 -- Assumes nothing.
 use borrow.Author.Needs.{needs}
 use Prim.Native.Nat.{_-_, _≤_}

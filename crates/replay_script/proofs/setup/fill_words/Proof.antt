@@ -1,4 +1,4 @@
--- `script::setup::fill_words` is safe and ends: the slice keeps its length.
+-- `replay_script::setup::fill_words` is safe and ends: the slice keeps its length.
 -- Assumes nothing.
 use borrow.Author.Needs.{needs}
 use native.Mathlib.Omega.{arith}
