@@ -71,9 +71,8 @@ static void behind_op(const struct driver_module *module)
         power_fails(module);
 }
 
-static const uint64_t *map(struct driver_module *module, const char *path)
+static const uint64_t *map(struct driver_module *module)
 {
-    (void)path;
     size_t bytes = 8 * module->count;
     newest = malloc(bytes);
     flushed = malloc(bytes);
