@@ -9,6 +9,7 @@
 #include "drivelog.h"
 
 enum { STATE = DRIVELOG_STATE_WORDS, IMAGE = 200, OPS = DRIVELOG_OPS_WORDS, BYTES = 9, ENTRIES = 256 };
+enum { FLIPS_GRANTED = 127 };
 
 enum call { FORMAT, RESERVE, COPY, COMPLETE, FORCE, RELEASE, RELEASE_ALL, RECOVER, WRITING, OPEN = WRITING, NEXT, FETCH, CALLS };
 static const char *const names[] = {"format",      "reserve", "copy", "complete", "force", "release",
@@ -247,6 +248,50 @@ static void broken_cursors(void)
         }
 }
 
+/* Which single-bit changes of a sound state a reserve takes for another sound state: the header says how many, and that it is no check. */
+static void flipped_bits(void)
+{
+    unsigned granted = 0;
+    for (size_t bit = 0; bit < 64 * STATE; bit++) {
+        mixed.state[bit / 64] ^= 1ull << bit % 64;
+        granted += make(RESERVE, &mixed, usual, BYTES) >= 0;
+        mixed.state[bit / 64] ^= 1ull << bit % 64;
+    }
+    need(granted == FLIPS_GRANTED, "another number of single-bit changes is granted than the header says");
+}
+
+/* The header's constants for the words of ops, cursors, records and rows. */
+static void constants(void)
+{
+    uint64_t ops[OPS], reply[4], cursor[DRIVELOG_CURSOR_WORDS], record[DRIVELOG_RECORD_WORDS], rows[DRIVELOG_ROW_WORDS * DRIVELOG_MAX_RECORDS];
+    struct log log = settled;
+    call_name = "constants";
+    need(drivelog_release(log.state, STATE, log.image, IMAGE, ops, OPS, 2, reply, 4) == 0 && reply[DRIVELOG_REPLY_OPS] == 1, "release");
+    need(ops[0] == DRIVELOG_OP_STORE && ops[2] >> 48 == DRIVELOG_MARK_RELEASED, "the op of a release");
+    need(drivelog_recover(log.state, STATE, log.image, IMAGE, ops, OPS, reply, 4) == 0 && reply[DRIVELOG_REPLY_OPS] == 11, "recover");
+    const uint64_t *last = ops + DRIVELOG_OP_WORDS * 10;
+    need(last[0] == DRIVELOG_OP_FLUSH && last[1] == 0 && last[2] == 1, "the last op of a recovery");
+    need(drivelog_open(log.image, IMAGE, cursor, DRIVELOG_CURSOR_WORDS, reply, 4) == 0, "open");
+    need(cursor[DRIVELOG_CURSOR_POS] == 0 && cursor[DRIVELOG_CURSOR_LSN] == 1 && cursor[DRIVELOG_CURSOR_USED] == 0 && cursor[DRIVELOG_CURSOR_COUNT] == 0, "a cursor at the head");
+    need(cursor[DRIVELOG_CURSOR_LAST_EPOCH] == 0 && cursor[DRIVELOG_CURSOR_SUPERLINE_EPOCH] == 2, "epochs of a cursor");
+    for (uint64_t lsn = 1; lsn <= 2; lsn++) {
+        need(drivelog_next(log.image, IMAGE, cursor, DRIVELOG_CURSOR_WORDS, record, DRIVELOG_RECORD_WORDS, reply, 4) == 1, "next");
+        need(record[DRIVELOG_RECORD_MARK] == (lsn == 2 ? DRIVELOG_MARK_RELEASED : DRIVELOG_MARK_COMMITTED) && record[DRIVELOG_RECORD_LSN] == lsn, "a record");
+        need(record[DRIVELOG_RECORD_KIND] == 16 + lsn && record[DRIVELOG_RECORD_LENGTH] == BYTES && record[DRIVELOG_RECORD_EPOCH] == 1, "a record");
+    }
+    need(cursor[DRIVELOG_CURSOR_POS] == 10 && cursor[DRIVELOG_CURSOR_LSN] == 3 && cursor[DRIVELOG_CURSOR_USED] == 10 && cursor[DRIVELOG_CURSOR_COUNT] == 2 && cursor[DRIVELOG_CURSOR_LAST_EPOCH] == 1, "a cursor after two records");
+    need(drivelog_list((const uint8_t *)(const void *)log.image, 8 * IMAGE, rows, sizeof rows / 8) == 2, "list");
+    const uint64_t *row = rows + DRIVELOG_ROW_WORDS;
+    need(row[DRIVELOG_ROW_LSN] == 3 && row[DRIVELOG_ROW_KIND] == 19 && row[DRIVELOG_ROW_LENGTH] == BYTES && row[DRIVELOG_ROW_POS] == 10, "a row");
+    uint64_t none[DRIVELOG_MAX_IMAGE_WORDS + 1] = {0};
+    need(drivelog_format(log.state, STATE, none, DRIVELOG_MIN_IMAGE_WORDS, ops, OPS, reply, 4) == 0, "the smallest image");
+    need(drivelog_format(log.state, STATE, none, DRIVELOG_MIN_IMAGE_WORDS - 1, ops, OPS, reply, 4) == -DRIVELOG_IMAGE_SIZE, "a smaller image");
+    need(drivelog_format(log.state, STATE, none, DRIVELOG_MAX_IMAGE_WORDS, ops, OPS, reply, 4) == 0, "the largest image");
+    need(drivelog_format(log.state, STATE, none, DRIVELOG_MAX_IMAGE_WORDS + 1, ops, OPS, reply, 4) == -DRIVELOG_IMAGE_SIZE, "a larger image");
+    need(drivelog_reserve(log.state, STATE, none, DRIVELOG_MAX_IMAGE_WORDS, ops, OPS, DRIVELOG_MAX_KIND, DRIVELOG_MAX_PAYLOAD, reply, 4) == 1, "the last kind");
+    need(drivelog_reserve(log.state, STATE, none, DRIVELOG_MAX_IMAGE_WORDS, ops, OPS, DRIVELOG_MAX_KIND + 1, 0, reply, 4) == -DRIVELOG_ARGUMENT, "a kind too large");
+}
+
 /* No words or bytes at all. */
 static void nothing_lent(void)
 {
@@ -283,6 +328,8 @@ int main(void)
         broken_states(&settled);
         broken_cursors();
         nothing_lent();
+        constants();
+        flipped_bits();
     }
     printf("words: %llu calls answered as they should be\n", (unsigned long long)call_number);
     return 0;
