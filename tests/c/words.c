@@ -260,6 +260,31 @@ static void flipped_bits(void)
     need(granted == FLIPS_GRANTED, "another number of single-bit changes is granted than the header says");
 }
 
+/* What one bit of an image can do, which README says: a record's mark is not covered by its check. Of all single-bit flips of a log of
+ * five records in 64 words, five make a shorter list that ends as if it were whole; each is the lowest bit of a mark. */
+static void flipped_image(void)
+{
+    uint64_t state[STATE], image[64] = {0}, ops[OPS], reply[4];
+    const uint8_t *bytes = (const uint8_t *)(const void *)image;
+    unsigned shorter = 0;
+    call_name = "a flipped image";
+    need(drivelog_format(state, STATE, image, 64, ops, OPS, reply, 4) == 0, "format");
+    for (uint64_t lsn = 1; lsn <= 5; lsn++) {
+        need(drivelog_reserve(state, STATE, image, 64, ops, OPS, 1, BYTES, reply, 4) == (int64_t)lsn, "reserve");
+        need(drivelog_complete(state, STATE, image, 64, ops, OPS, lsn, reply, 4) == 0, "complete");
+    }
+    need(drivelog_force(state, STATE, image, 64, ops, OPS, 5, 1, reply, 4) == 1, "force");
+    for (size_t bit = 0; bit < 64 * 64; bit++) {
+        image[bit / 64] ^= 1ull << bit % 64;
+        int64_t count = drivelog_count(bytes, sizeof image);
+        image[bit / 64] ^= 1ull << bit % 64;
+        need(count <= 5, "a longer list");
+        need(count < 0 || count == 5 || bit % 64 == 48, "a bit that is no mark's shortens the list");
+        shorter += count >= 0 && count < 5;
+    }
+    need(shorter == 5, "not five flips shorten the list");
+}
+
 /* The header's constants for the words of ops, cursors, records and rows. */
 static void constants(void)
 {
@@ -330,6 +355,7 @@ int main(void)
         nothing_lent();
         constants();
         flipped_bits();
+        flipped_image();
     }
     printf("words: %llu calls answered as they should be\n", (unsigned long long)call_number);
     return 0;
