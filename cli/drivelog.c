@@ -12,6 +12,7 @@
 #include <stdio.h>
 #include <stdlib.h>
 #include <string.h>
+#include <sys/stat.h>
 #include <unistd.h>
 
 const char *path;
@@ -246,6 +247,23 @@ static void take_arguments(const struct command *command, const struct line *lin
     path = argument[0];
 }
 
+/* Whether a standard stream writes to the log's own file: what is printed there would get into the log. */
+static int writes_to_log(int stream)
+{
+    struct stat log, other;
+    return stat(path, &log) == 0 && S_ISREG(log.st_mode) && fstat(stream, &other) == 0 && log.st_dev == other.st_dev && log.st_ino == other.st_ino;
+}
+
+static void need_other_streams(void)
+{
+    int output = writes_to_log(STDOUT_FILENO), error = writes_to_log(STDERR_FILENO);
+    if (!output && !error)
+        return;
+    if (!output || !error)
+        fprintf(output ? stderr : stdout, "drivelog: %s: standard %s is the log's own file\n", path, output ? "output" : "error");
+    exit(REFUSED);
+}
+
 static int run(char **words_of_line)
 {
     struct line line = sort_words(words_of_line);
@@ -257,6 +275,7 @@ static int run(char **words_of_line)
     if (command == NULL)
         usage("a command is needed");
     take_arguments(command, &line);
+    need_other_streams();
     return command->run(command);
 }
 

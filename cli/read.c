@@ -14,29 +14,24 @@
 #include <time.h>
 #include <unistd.h>
 
-enum { RING_DRAWN = 64 /* characters of the ring's line */ };
+enum {
+    RING_DRAWN = 64,      /* characters of the ring's line */
+    MAX_WAIT = 1000000000 /* seconds: for ever */
+};
 
 int try_again(void)
 {
-    static time_t end;
-    struct timespec now, pause = {0, 10000000};
-    if (errno != EWOULDBLOCK || clock_gettime(CLOCK_MONOTONIC, &now) != 0)
+    static uint64_t end; /* in milliseconds */
+    struct timespec time, pause = {0, 10000000};
+    if (errno != EWOULDBLOCK || wait_seconds == 0 || clock_gettime(CLOCK_MONOTONIC, &time) != 0)
         return 0;
+    uint64_t now = 1000 * (uint64_t)time.tv_sec + (uint64_t)time.tv_nsec / 1000000;
     if (end == 0)
-        end = now.tv_sec + (time_t)(wait_seconds < 1000000000 ? wait_seconds : 1000000000);
+        end = now + 1000 * (wait_seconds < MAX_WAIT ? wait_seconds : MAX_WAIT);
+    if (now < end)
+        nanosleep(&pause, NULL);
     errno = EWOULDBLOCK;
-    if (wait_seconds == 0 || now.tv_sec >= end)
-        return 0;
-    nanosleep(&pause, NULL);
-    return 1;
-}
-
-void need_no_stream(int file)
-{
-    struct stat log, stream;
-    for (int i = STDOUT_FILENO; i <= STDERR_FILENO; i++)
-        if (fstat(file, &log) == 0 && fstat(i, &stream) == 0 && log.st_dev == stream.st_dev && log.st_ino == stream.st_ino)
-            fail(i == STDOUT_FILENO ? "standard output is the log's own file" : "standard error is the log's own file");
+    return now < end;
 }
 
 /* Opens the file and locks it: processes that read may do so beside each other, and not beside one that writes. A FIFO or a device is not
@@ -65,7 +60,6 @@ void read_image(void)
     }
     if (file < 0)
         fail_by_system();
-    need_no_stream(file);
     size_t bytes = 0;
     ssize_t got;
     while ((got = read(file, (char *)image + bytes, sizeof image - bytes)) > 0)

@@ -63,8 +63,6 @@ void read_image(void);
 int64_t next(uint64_t *cursor, uint64_t *record);
 /* Whether to try once more to lock the file: errno says that another process has it, and there is time left. */
 int try_again(void);
-/* A file that a standard stream writes to is no log: what is printed would get into it. */
-void need_no_stream(int file);
 
 int list(void);
 int why(uint64_t lsn);

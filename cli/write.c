@@ -94,7 +94,6 @@ static void power_up(void)
     }
     if (module == NULL)
         fail_by_system();
-    need_no_stream(module->file);
     words = module->count <= DRIVELOG_MAX_IMAGE_WORDS ? module->count : DRIVELOG_MAX_IMAGE_WORDS + 1;
     file_bytes = 8 * (uint64_t)module->count;
     memcpy(image, module->words, 8 * words);
