@@ -27,7 +27,7 @@ uint64_t file_bytes;
 enum { TAKES_WAIT = 1, TAKES_FREQUENCY = 2 };
 enum { MOST_ARGUMENTS = 3 };
 
-/* What stands in the command line after the command: its arguments, FILE first, and its options. */
+/* What the command is given: its arguments, FILE first, and an option. */
 static const char *argument[MOST_ARGUMENTS];
 static uint64_t frequency = 1;
 
@@ -89,7 +89,7 @@ static const struct command commands[] = {
      "      that signal. A line that was not read to its end is dropped"},
     {"release", {"FILE", "LSN"}, TAKES_WAIT, run_release, "gives a record back"},
     {"release-all", {"FILE"}, TAKES_WAIT, run_release_all, "gives all records back"},
-    {"recover", {"FILE"}, TAKES_WAIT, run_recover, "the recovery alone, as at power-up"},
+    {"recover", {"FILE"}, TAKES_WAIT, run_recover, "the recovery alone"},
 };
 enum { COMMANDS = sizeof commands / sizeof commands[0], READING_COMMANDS = 3 };
 
@@ -100,7 +100,9 @@ static void say_command(const struct command *command)
     printf("  drivelog %s", command->name);
     for (int i = 0; i < MOST_ARGUMENTS && command->arguments[i] != NULL; i++)
         printf(" %s", command->arguments[i]);
-    printf("%s%s\n      %s\n", command->options & TAKES_FREQUENCY ? " [-f F]" : "", command->options & TAKES_WAIT ? " [--wait SECONDS]" : "", command->help);
+    const char *frequency_option = command->options & TAKES_FREQUENCY ? " [-f F]" : "";
+    const char *wait_option = command->options & TAKES_WAIT ? " [--wait SECONDS]" : "";
+    printf("%s%s\n      %s\n", frequency_option, wait_option, command->help);
 }
 
 static const char conventions[] =
@@ -110,11 +112,14 @@ static const char conventions[] =
     "out, at once or after it has waited SECONDS for its turn. Nothing is said to be durable\n"
     "in a file that was replaced, cut or written by another program meanwhile.\n"
     "\n"
-    "Status: 0 done. 1 refused, or the file or standard input cannot be had: standard error\n"
-    "says why, and 'refused N' has the number of the log's refusal. 2 a wrong command line.\n"
-    "3 another process has the file open. 4 standard output cannot be written; if it was\n"
-    "closed from the start, nothing was done. What is refused for its arguments alone\n"
-    "(kind 0, 1025 bytes, LSN 0) is refused before anything is written.\n";
+    "status:\n"
+    "  0  done\n"
+    "  1  refused, or the file or standard input cannot be had. Standard error says why;\n"
+    "     'refused N' has the number of the log's refusal. What is refused for its arguments\n"
+    "     alone (kind 0, 1025 bytes, LSN 0) is refused before anything is written\n"
+    "  2  a wrong command line; nothing is done\n"
+    "  3  another process has the file open; nothing is done\n"
+    "  4  standard output cannot be written. If it is closed from the start, nothing is done\n";
 
 static const char examples[] =
     "\n"
@@ -135,7 +140,7 @@ static int say_help(const struct command *command)
     puts("drivelog: a crash-safe log of records in a file\n\nreading:");
     for (int i = 0; i < COMMANDS; i++) {
         if (i == READING_COMMANDS)
-            puts("writing, each after a recovery, as at power-up:");
+            puts("writing; all but format recover first, as a drive does at power-up:");
         say_command(&commands[i]);
     }
     puts("  drivelog [COMMAND] --help\n  drivelog --version");
@@ -251,7 +256,9 @@ static void take_arguments(const struct command *command, const struct line *lin
 static int writes_to_log(int stream)
 {
     struct stat log, other;
-    return stat(path, &log) == 0 && S_ISREG(log.st_mode) && fstat(stream, &other) == 0 && log.st_dev == other.st_dev && log.st_ino == other.st_ino;
+    if (stat(path, &log) != 0 || !S_ISREG(log.st_mode) || fstat(stream, &other) != 0)
+        return 0;
+    return log.st_dev == other.st_dev && log.st_ino == other.st_ino;
 }
 
 static void need_other_streams(void)

@@ -152,6 +152,7 @@ static const char *argument_in_words(char *text, size_t room)
 static const char *refusal_in_words(char *text, size_t room)
 {
     uint64_t detail = reply[DRIVELOG_REPLY_DETAIL];
+    const char *test = test_in_words(reply[DRIVELOG_REPLY_SECOND]);
     switch (reply[DRIVELOG_REPLY_NUMBER]) {
     case DRIVELOG_IMAGE_SIZE: return size_in_words(text, room);
     case DRIVELOG_ARGUMENT: return argument_in_words(text, room);
@@ -159,12 +160,17 @@ static const char *refusal_in_words(char *text, size_t room)
     case DRIVELOG_TABLE_FULL: return "the log holds 256 records; release some";
     case DRIVELOG_NO_ROOM: return "no room for this record; release some";
     case DRIVELOG_NOT_LIVE:
-        snprintf(text, room, asked_lsn == 0 || asked_lsn > MAX_LSN ? "LSN %" PRIu64 " is not 1 to 4611686018427387903" : "no live record has LSN %" PRIu64, asked_lsn);
+        if (asked_lsn == 0 || asked_lsn > MAX_LSN)
+            snprintf(text, room, "LSN %" PRIu64 " is not 1 to %" PRIu64, asked_lsn, MAX_LSN);
+        else
+            snprintf(text, room, "no live record has LSN %" PRIu64, asked_lsn);
         return text;
     case DRIVELOG_WRONG_STAGE: snprintf(text, room, "record %" PRIu64 " is released already", asked_lsn); return text;
     case DRIVELOG_UNFINISHED: snprintf(text, room, "record %" PRIu64 " is not complete or not committed", detail); return text;
-    case DRIVELOG_DAMAGED: snprintf(text, room, "record %" PRIu64 " is damaged: %s", detail, test_in_words(reply[DRIVELOG_REPLY_SECOND])); return text;
-    case DRIVELOG_TOO_MANY: snprintf(text, room, "too many records: the log holds 256, and LSN %" PRIu64 " is one more", detail); return text;
+    case DRIVELOG_DAMAGED: snprintf(text, room, "record %" PRIu64 " is damaged: %s", detail, test); return text;
+    case DRIVELOG_TOO_MANY:
+        snprintf(text, room, "too many records: the log holds 256, and LSN %" PRIu64 " is one more", detail);
+        return text;
     case DRIVELOG_OPS_SHORT: snprintf(text, room, "the op buffer is too short: %" PRIu64 " words are needed", detail); return text;
     default: return drivelog_refusal_text((int64_t)reply[DRIVELOG_REPLY_NUMBER]);
     }

@@ -197,7 +197,8 @@ int info(void)
         printf("damaged  LSN %" PRIu64 " at position %" PRIu64 ": %s\n", lsn, pos, test_in_words(reply[DRIVELOG_REPLY_SECOND]));
     else
         printf("toomany  LSN %" PRIu64 " at position %" PRIu64 "\n", lsn, pos);
-    printf("records  %" PRIu64 " listed, %" PRIu64 " released%s; a log holds %d\n", listed, released, found == 0 ? "" : " before that", DRIVELOG_MAX_RECORDS);
+    printf("records  %" PRIu64 " listed, %" PRIu64 " released%s", listed, released, found == 0 ? "" : " before that");
+    printf("; a log holds %d\n", DRIVELOG_MAX_RECORDS);
     if (found == 0)
         say_room(ring - 1 - cursor[DRIVELOG_CURSOR_USED], listed + released);
     else

@@ -109,10 +109,11 @@ static int done(int status)
 
 int format(uint64_t asked_words)
 {
-    char text[100];
-    snprintf(text, sizeof text, "refused 1: %" PRIu64 " words are not the size of an image, which has %d to %d", asked_words, DRIVELOG_MIN_IMAGE_WORDS, DRIVELOG_MAX_IMAGE_WORDS);
-    if (asked_words < DRIVELOG_MIN_IMAGE_WORDS || asked_words > DRIVELOG_MAX_IMAGE_WORDS)
+    if (asked_words < DRIVELOG_MIN_IMAGE_WORDS || asked_words > DRIVELOG_MAX_IMAGE_WORDS) {
+        char text[100];
+        snprintf(text, sizeof text, "refused 1: %" PRIu64 " words are not the size of an image, which has 40 to 8192", asked_words);
         fail(text);
+    }
     catch_lost_pages();
     words = (size_t)asked_words;
     granted(drivelog_format(LENT, REPLY));
