@@ -203,7 +203,7 @@ static int name_it(int directory, const char *old_name, const char *name)
 {
     int done = renameat2(directory, old_name, directory, name, RENAME_NOREPLACE);
     /* Some file systems have no such rename, and others no link. */
-    if (done != 0 && errno == EINVAL) {
+    if (done != 0 && (errno == EINVAL || errno == ENOSYS)) {
         done = linkat(directory, old_name, directory, name, 0);
         if (done == 0)
             unlinkat(directory, old_name, 0);

@@ -1,6 +1,7 @@
 /* driver FILE: the driver alone, on a file that it makes and takes away. Ops in turn, ops that it declines, the lock, new files, files that
- * are replaced, its errors. Status 1 and a line for the first thing that is not as it should be. Linked with --wrap=calloc, so that the
- * test can do something in the middle of driver_open. */
+ * are replaced, its errors. Status 1 and a line for the first thing that is not as it should be. Linked with
+ * --wrap=calloc and --wrap=renameat2, so that the test can do something in the middle of driver_open, and stand for a file system without
+ * that rename. */
 
 #define _DEFAULT_SOURCE
 #include "driver.h"
@@ -57,6 +58,16 @@ static uint64_t in_file(const char *path, size_t word)
     return value;
 }
 
+static int no_rename;
+
+int __real_renameat2(int from, const char *old_name, int to, const char *name, unsigned flags);
+int __wrap_renameat2(int from, const char *old_name, int to, const char *name, unsigned flags);
+int __wrap_renameat2(int from, const char *old_name, int to, const char *name, unsigned flags)
+{
+    errno = EINVAL;
+    return no_rename ? -1 : __real_renameat2(from, old_name, to, name, flags);
+}
+
 /* How many files of the folder are left of a driver_make. */
 static int left_over(const char *folder)
 {
@@ -71,6 +82,7 @@ static int left_over(const char *folder)
 /* A file is made whole or not at all. */
 static void making(const char *path, const char *folder)
 {
+    static const char late[] = "late\n";
     uint64_t ops[] = {1, 7, 1, 1, 8, 2, 2, 7, 2}, wrong[] = {1, 7, 1, 1, 100, 2};
     EXPECT(driver_make(path, 100, wrong, 2) == NULL && errno == EINVAL && access(path, F_OK) != 0);
     struct driver_module *module = driver_make(path, 100, ops, 3);
@@ -80,6 +92,17 @@ static void making(const char *path, const char *folder)
     EXPECT(driver_check(module, path) == 0);
     driver_close(module);
     EXPECT(left_over(folder) == 0);
+    unlink(path);
+    /* A name that is taken while the file is made stays what it is. */
+    char taken[1000];
+    snprintf(taken, sizeof taken, "%s-taken", path);
+    FILE *file = fopen(taken, "w");
+    EXPECT(file != NULL && fputs(late, file) >= 0 && fclose(file) == 0);
+    rename_from = taken;
+    rename_to = path;
+    EXPECT(driver_make(path, 100, ops, 3) == NULL && errno == EEXIST && rename_from == NULL && left_over(folder) == 0);
+    struct stat about;
+    EXPECT(stat(path, &about) == 0 && about.st_size == sizeof late - 1);
     unlink(path);
     EXPECT(driver_create("/nowhere/at/all", 100) == NULL && errno == ENOENT);
     EXPECT(driver_create("", 100) == NULL && errno == ENOENT);
@@ -205,7 +228,8 @@ int main(int count, char **argument)
     EXPECT(truncate(path, 8 * WORDS + 4) == 0 && driver_open(path) == NULL && errno == EINVAL);
     EXPECT(truncate(path, 0) == 0 && driver_open(path) == NULL && errno == EINVAL);
     unlink(path);
-    making(path, folder);
+    for (no_rename = 0; no_rename < 2; no_rename++)
+        making(path, folder);
     standard_streams(path);
     another_file(path, other);
     no_module(path);
