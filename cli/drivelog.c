@@ -238,7 +238,7 @@ static void take_arguments(const struct command *command, const struct line *lin
     int most = 0;
     for (; most < MOST_ARGUMENTS && command->arguments[most] != NULL; most++) {
         argument[most] = line->plain[most + 1];
-        if (argument[most] == NULL && command->arguments[most][0] != '[')
+        if (argument[most] == NULL && (most == 0 || command->arguments[most][0] != '['))
             usage("%s: %s is missing", command->name, command->arguments[most]);
     }
     if (line->plain_count - 1 > most)
