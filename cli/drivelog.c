@@ -1,6 +1,6 @@
 /* drivelog: a log in a file, from the command line. `drivelog --help` says what it does.
  *
- * It stands on the proved calls of include/drivelog.h and on driver/driver.h, which carries their ops out. This file has the command line,
+ * It is built on the proved calls of include/drivelog.h and on driver/driver.h, which carries their ops out. This file has the command line,
  * read.c and write.c the commands, message.c what goes wrong, in words. */
 
 #define _DEFAULT_SOURCE

@@ -19,7 +19,7 @@
 #include <unistd.h>
 
 enum {
-    MAX_DIGITS = 20,                                    /* of a number below 2^64 */
+    MAX_DIGITS = 20,                                     /* of a number below 2^64 */
     MAX_LINE = MAX_DIGITS + 1 + DRIVELOG_MAX_PAYLOAD + 1 /* KIND, space, TEXT, line feed */
 };
 
@@ -326,7 +326,7 @@ static void say(uint64_t lsn, int durable)
         stop = SIGPIPE;
 }
 
-/* Whether standard output can be written without waiting: a writer that was told to stop waits for nobody. */
+/* Whether standard output can be written without waiting: a writer that is stopped waits for nobody. */
 static int output_free(void)
 {
     struct pollfd output = {STDOUT_FILENO, POLLOUT, 0};
@@ -366,54 +366,66 @@ static int end_without_output(uint64_t last)
     return done(NO_OUTPUT);
 }
 
-/* Every line is a record until one is wrong or refused, or the writer is told to stop; what went before is made durable in any case. */
+/* How the lines ended. `wrong` says what is wrong with line number `count`, if anything; for a refusal it is in the reply. */
+static int end_of_lines(enum input input, const char *wrong, uint64_t count)
+{
+    if (input == UNREADABLE) {
+        errno = input_error;
+        fail_to_read_input();
+    }
+    if (wrong == NULL && input != TOO_LONG)
+        return done(DONE);
+    if (input == TOO_LONG) {
+        wrong = "is longer than a record can be";
+        count++;
+    }
+    fprintf(stderr, "drivelog: line %" PRIu64 " of standard input %s\n", count, wrong);
+    if (reply[DRIVELOG_REPLY_NUMBER] != 0)
+        say_refusal();
+    return done(REFUSED);
+}
+
+/* Makes records up to an LSN durable after all, and says so unless nobody can read it now. The reply stays as it is. */
+static void settle(uint64_t last)
+{
+    uint64_t kept[DRIVELOG_REPLY_WORDS];
+    memcpy(kept, reply, sizeof kept);
+    force(last, 1);
+    memcpy(reply, kept, sizeof kept);
+    if (output_error == 0 && (stop == 0 ? ready(STDOUT_FILENO, POLLOUT) : output_free()))
+        say(last, 1);
+}
+
+/* Every line is a record until one is wrong or refused, or the writer is stopped; what went before is made durable in any case. */
 int write_lines(uint64_t frequency)
 {
     const char *line = NULL, *text = NULL, *wrong = NULL;
     size_t length = 0;
     uint64_t kind, count = 0, last = 0, said = 0; /* said: the LSN that was last said to be durable */
-    int64_t answer = 0;
     enum input input = LINE;
 
     power_up();
     hold_signals();
-    while (wrong == NULL && stop == 0 && output_error == 0 && (input = next_line(&line, &length)) == LINE) {
+    while (stop == 0 && output_error == 0 && (input = next_line(&line, &length)) == LINE) {
         count++;
-        if ((wrong = parse(line, length, &kind, &text)) != NULL)
+        wrong = parse(line, length, &kind, &text);
+        int64_t lsn = wrong == NULL ? put_record(kind, text, (size_t)(line + length - text)) : 0;
+        if (lsn < 0)
+            wrong = "is refused";
+        if (wrong != NULL)
             break;
-        if ((answer = put_record(kind, text, (size_t)(line + length - text))) < 0)
-            break;
-        last = (uint64_t)answer;
+        last = (uint64_t)lsn;
         int durable = force(last, frequency);
         if (!ready(STDOUT_FILENO, POLLOUT))
             break;
         say(last, durable);
         said = durable ? last : said;
     }
-    uint64_t refused[DRIVELOG_REPLY_WORDS];
-    memcpy(refused, reply, sizeof refused);
     if (last != said)
-        force(last, 1);
-    if (last != said && output_error == 0 && (stop == 0 ? ready(STDOUT_FILENO, POLLOUT) : output_free()))
-        say(last, 1);
-
+        settle(last);
     if (stop != 0)
         return end_by_signal(last);
     if (output_error != 0)
         return end_without_output(last);
-    if (input == UNREADABLE) {
-        errno = input_error;
-        fail_to_read_input();
-    }
-    if (input == TOO_LONG)
-        wrong = "is longer than a record can be";
-    if (answer < 0)
-        wrong = "is refused";
-    if (wrong != NULL)
-        fprintf(stderr, "drivelog: line %" PRIu64 " of standard input %s\n", count + (input == TOO_LONG), wrong);
-    if (answer < 0) {
-        memcpy(reply, refused, sizeof refused);
-        say_refusal();
-    }
-    return done(wrong == NULL ? DONE : REFUSED);
+    return end_of_lines(input, wrong, count);
 }
