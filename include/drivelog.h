@@ -247,7 +247,7 @@ int64_t drivelog_payload_at(const uint8_t *image, size_t bytes, uint64_t pos, ui
  * State: DRIVELOG_STATE_WORDS words that the program keeps and lends to each call. drivelog_format or drivelog_recover fills them, and
  * nobody else need know what they hold. Words that are not sound are declined with DRIVELOG_UNSOUND: numbers out of their range, or
  * that do not fit one another. That is no check of the words: a sound state made by hand is accepted, and a flipped bit of the state in
- * memory is not always caught (of the 33,280 single-bit changes of one sound state, drivelog_reserve granted 127).
+ * memory is not always caught (of the 33,280 single-bit changes of the state of a log of five records, drivelog_reserve grants 127).
  *
  * Reply: four words or more that each call writes, in the order of the enum below, whether it is granted or declined. The words after
  * them stay as they are.
