@@ -130,11 +130,22 @@ static const char examples[] =
     "  drivelog list module.log\n"
     "  drivelog release module.log 1 --wait 5\n";
 
+/* The refusals that a command can meet; the message itself names the number, the record or the size. */
+static void say_refusals(void)
+{
+    static const int numbers[] = {DRIVELOG_IMAGE_SIZE,    DRIVELOG_ARGUMENT,   DRIVELOG_SUPERLINE, DRIVELOG_NOT_LIVE, DRIVELOG_WRONG_STAGE,
+                                  DRIVELOG_NUMBERS_SPENT, DRIVELOG_TABLE_FULL, DRIVELOG_NO_ROOM,   DRIVELOG_DAMAGED,  DRIVELOG_TOO_MANY};
+    puts("\nrefused:");
+    for (size_t i = 0; i < sizeof numbers / sizeof numbers[0]; i++)
+        printf("  %-2d %s\n", numbers[i], drivelog_refusal_text(numbers[i]));
+}
+
 static int say_help(const struct command *command)
 {
     if (command != NULL) {
         say_command(command);
         fputs(conventions, stdout);
+        say_refusals();
         return DONE;
     }
     puts("drivelog: a crash-safe log of records in a file\n\nreading:");
@@ -145,6 +156,7 @@ static int say_help(const struct command *command)
     }
     puts("  drivelog [COMMAND] --help\n  drivelog --version");
     fputs(conventions, stdout);
+    say_refusals();
     fputs(examples, stdout);
     return DONE;
 }

@@ -21,7 +21,8 @@ static bool texts()
 
 static bool version()
 {
-    return std::to_string(DRIVELOG_VERSION_MAJOR) + "." + std::to_string(DRIVELOG_VERSION_MINOR) + "." + std::to_string(DRIVELOG_VERSION_PATCH) == DRIVELOG_VERSION;
+    const std::string major = std::to_string(DRIVELOG_VERSION_MAJOR), minor = std::to_string(DRIVELOG_VERSION_MINOR);
+    return major + "." + minor + "." + std::to_string(DRIVELOG_VERSION_PATCH) == DRIVELOG_VERSION;
 }
 
 int main()
