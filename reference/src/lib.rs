@@ -20,6 +20,7 @@ pub mod ops;
 pub mod query;
 pub mod refusal;
 pub mod state;
+pub mod three;
 
 // The same written for speed, to measure against.
 pub mod plain;
