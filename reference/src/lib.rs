@@ -28,6 +28,7 @@ pub mod plain;
 // What a power failure does, and what must survive it.
 pub mod abstract_log;
 pub mod device;
+pub mod three_system;
 
 // Programs.
 pub mod bench;
@@ -35,6 +36,7 @@ pub mod c_calls;
 pub mod compare;
 pub mod cover;
 pub mod crash;
+pub mod crash_three;
 pub mod demo;
 pub mod gen;
 pub mod images;

@@ -5,6 +5,7 @@ use reference::c_calls::c_calls;
 use reference::compare::{compare, compare_samples};
 use reference::cover::Coverage;
 use reference::crash::{crash_bench, Program};
+use reference::crash_three::crash_three;
 use reference::demo::demo;
 use reference::gen;
 use reference::layout::OLD_TABLE_SIZE;
@@ -16,12 +17,13 @@ use reference::replay::replay;
 use reference::samples::full_image;
 use reference::shortcut::Shortcut;
 use reference::stored_script::stored_script;
+use reference::three_system::Variant;
 use reference::time::{list_times, load_times};
 use std::fs;
 use std::io::{self, BufWriter, Write};
 use std::path::{Path, PathBuf};
 use std::process::ExitCode;
-use std::time::Duration;
+use std::time::{Duration, Instant};
 
 const USAGE: &str = "\
 usage: reference demo                    tell the story that the program demo tells
@@ -49,6 +51,9 @@ usage: reference demo                    tell the story that the program demo te
        reference cover SEED N            count what N scripts reach
        reference crash SECONDS [--program PATH] [--seed S] [--shortcut K]
                                          cut power at random and check what is left
+       reference crash-three SECONDS [--seed S] [--variant V]
+                                         the same with three modules that are absent, miss ops and lose power
+       reference crash-three-variants    the same with each rule broken on purpose: each has to be caught
 ";
 
 fn main() -> ExitCode {
@@ -242,6 +247,8 @@ fn run(args: &[&str]) -> io::Result<ExitCode> {
             stdout.write_all(coverage.report().as_bytes())?;
         }
         ["crash", seconds, options @ ..] => return crash(seconds, options),
+        ["crash-three", seconds, options @ ..] => return crash_in_three(seconds, options),
+        ["crash-three-variants"] => return each_variant(&mut stdout),
         _ => {
             eprint!("{USAGE}");
             return Ok(ExitCode::from(2));
@@ -297,6 +304,56 @@ fn crash(seconds: &str, options: &[&str]) -> io::Result<ExitCode> {
         report.failure.iter().count(),
     );
     Ok(if report.failure.is_none() { ExitCode::SUCCESS } else { ExitCode::FAILURE })
+}
+
+fn crash_in_three(seconds: &str, options: &[&str]) -> io::Result<ExitCode> {
+    let (mut seed, mut variant) = (1, None);
+    for option in options.chunks(2) {
+        match *option {
+            ["--seed", number] => seed = parse(number)?,
+            ["--variant", name] => variant = Some(three_variant(name)?),
+            _ => return Err(invalid(format!("not an option: {}", option.join(" ")))),
+        }
+    }
+    let report = crash_three(variant, seed, Duration::from_secs(parse(seconds)?));
+    if let Some(failure) = &report.failure {
+        println!("seed {}: {}", failure.seed, failure.what);
+        failure.story.iter().for_each(|event| println!("  {event}"));
+    }
+    println!(
+        "crash-three: {} histories, {} events, {} power failures, {} triples, {} recoveries, {} failures",
+        report.histories,
+        report.events,
+        report.power_failures,
+        report.triples,
+        report.recoveries,
+        report.failure.iter().count(),
+    );
+    Ok(if report.failure.is_none() { ExitCode::SUCCESS } else { ExitCode::FAILURE })
+}
+
+/// Each variant has to be caught within a minute.
+fn each_variant(out: &mut impl Write) -> io::Result<ExitCode> {
+    let mut caught = 0;
+    for (name, variant) in Variant::ALL {
+        let start = Instant::now();
+        let report = crash_three(Some(variant), 1, Duration::from_secs(60));
+        let seconds = start.elapsed().as_secs_f64();
+        let what = report.failure.as_ref().map_or("not caught", |failure| &failure.what);
+        let histories = report.histories;
+        writeln!(out, "{name}: {seconds:.2} s, {histories} histories: {what}")?;
+        out.flush()?;
+        caught += usize::from(report.failure.is_some());
+    }
+    let all = Variant::ALL.len();
+    writeln!(out, "crash-three-variants: {caught} of {all} caught")?;
+    out.flush()?;
+    Ok(if caught == all { ExitCode::SUCCESS } else { ExitCode::FAILURE })
+}
+
+fn three_variant(name: &str) -> io::Result<Variant> {
+    let names = || Variant::ALL.map(|(name, _)| name).join(", ");
+    Variant::named(name).ok_or_else(|| invalid(format!("the variants are {}", names())))
 }
 
 fn parse<T: std::str::FromStr>(text: &str) -> io::Result<T> {
