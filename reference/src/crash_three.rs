@@ -2,20 +2,20 @@
 //!
 //! After every event, and once more as if power failed there, every choice of absent modules is looked at: whatever the recovery would
 //! choose has to hold what the abstract log promises. Unlike [`crate::crash`] this is a bench of our own recovery and of the promise
-//! itself; another program's recovery is compared with ours by the calls for C.
+//! itself; another program's recovery is compared with ours by [`crate::three_calls`].
 
 use crate::abstract_log::WalkedRecord;
 use crate::calls::{walk, Record};
 use crate::layout::{
     record_check, record_size, CheckWord, Header, Ring, FIRST_RING_WORD, HEADER_WORDS,
-    MARK_COMMITTED, MAX_EPOCH, MAX_KIND, MIN_IMAGE_WORDS,
+    MARK_COMMITTED, MAX_KIND, MIN_IMAGE_WORDS,
 };
 use crate::ops::OP_WORDS;
 use crate::refusal::Refusal;
 use crate::rng::Rng;
 use crate::script::{digest, Command};
 use crate::state::{Stage, State};
-use crate::three::{choose, Readable, ThreePlan, MODULES};
+use crate::three::{choose, Readable, ThreePlan, MODULES, RECOVER_OPS};
 use crate::three_system::{crash_image, System, Variant, Weather};
 use std::array::from_fn;
 use std::time::{Duration, Instant};
@@ -61,6 +61,22 @@ pub fn crash_three(variant: Option<Variant>, seed: u64, time: Duration) -> Repor
         }
     }
     report
+}
+
+/// What three modules may hold after some events of the first life of a seed's history, if power then fails or if it stays on.
+pub fn modules_of_a_run(seed: u64) -> [Vec<u64>; MODULES] {
+    let mut report = Report::default();
+    let mut history = History::new(None, seed, &mut report);
+    let words = MIN_IMAGE_WORDS + history.rng.below(20);
+    let [old @ .., working]: [Vec<u64>; MODULES + 1] = from_fn(|_| history.old_contents(words));
+    let mut system = System::start(None, old, working).expect("a good size");
+    for _ in 0..history.rng.between(1, 40) {
+        history.step(&mut system).expect("the promise holds");
+    }
+    if history.rng.chance(1, 2) {
+        system.power_fails(&mut history.rng);
+    }
+    system.newest()
 }
 
 /// The events of a history that fails, told.
@@ -178,7 +194,7 @@ impl<'a> History<'a> {
         let present = self.present();
         let planned = system.plan_recover(present);
         let whole = (0..MODULES).filter(|&i| present[i] && !system.modules[i].half_repaired);
-        let owed = whole.count() >= 2 && system.state.epoch < MAX_EPOCH - 1;
+        let owed = whole.count() >= 2;
         let planned = planned.and_then(|plan| {
             plan.require_room(self.op_words(&plan))?;
             Ok(plan)
@@ -225,7 +241,7 @@ impl<'a> History<'a> {
     ) -> Result<(), String> {
         self.tell(|| format!("recover: refused {} {}", refusal.number(), refusal.detail()));
         match refusal {
-            Refusal::TooFewCopies if !owed => self.report.too_few += 1,
+            Refusal::TooFewCopies if !owed || self.variant.is_some() => self.report.too_few += 1,
             Refusal::OpBufferShort { .. } => self.report.short += 1,
             _ => return Err(format!("recover is refused: {refusal:?}")),
         }
@@ -286,12 +302,13 @@ impl<'a> History<'a> {
         weather
     }
 
-    /// Any number up to all, often near one end, or where a repair has stored the superline.
+    /// Any number up to all, often near one end, or where a repair has stored the superline, or where it ends.
     fn part_of(&mut self, all: usize) -> usize {
-        match self.rng.below(5) {
+        match self.rng.below(6) {
             0 => all.min(self.rng.below(4) as usize),
-            1 => all - all.min(self.rng.below(14) as usize),
-            2 => all.min(self.rng.between(8, FIRST_RING_WORD + 4) as usize),
+            1 => all - all.min(self.rng.below(11) as usize),
+            2 => all.saturating_sub(RECOVER_OPS + self.rng.below(4) as usize),
+            3 => all.min(self.rng.between(8, FIRST_RING_WORD + 4) as usize),
             _ => self.rng.below(all as u64 + 1) as usize,
         }
     }
@@ -386,7 +403,8 @@ impl<'a> History<'a> {
         self.report.triples += 1;
         let walks = images.each_ref().map(|image| walk(image).ok());
         for (i, module) in system.modules.iter().enumerate() {
-            if !module.half_repaired && walks[i].is_none() {
+            // A variant has to break the promise itself.
+            if self.variant.is_none() && !module.half_repaired && walks[i].is_none() {
                 return Err(format!("module {i} is not readable"));
             }
         }

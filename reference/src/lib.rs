@@ -50,4 +50,6 @@ pub mod samples;
 pub mod script;
 pub mod shortcut;
 pub mod stored_script;
+pub mod three_calls;
 pub mod time;
+pub mod triples;

@@ -17,6 +17,7 @@ use reference::replay::replay;
 use reference::samples::full_image;
 use reference::shortcut::Shortcut;
 use reference::stored_script::stored_script;
+use reference::three_calls::three_calls;
 use reference::three_system::Variant;
 use reference::time::{list_times, load_times};
 use std::fs;
@@ -37,6 +38,7 @@ usage: reference demo                    tell the story that the program demo te
        reference compare REPLAY LOGLIST SEED N
                                          compare two other programs with ours on N seeds
        reference c-calls DRIVER SEED N   compare the calls that a C program makes with ours, on N images
+       reference three PROGRAM SEED N    compare the recovery of three modules that a C program makes with ours
        reference logwhy                  say why the LSN behind the image on standard input is listed or not
        reference why LOGWHY SEED N       run another logwhy on images of N seeds, each with many LSNs
        reference logload                 write the image that the listing on standard input describes
@@ -140,6 +142,30 @@ fn run(args: &[&str]) -> io::Result<ExitCode> {
                 stdout,
                 "c-calls: {} images, {} calls, {} differences",
                 report.images,
+                report.calls,
+                report.difference.iter().count()
+            )?;
+            stdout.flush()?;
+            return Ok(if report.difference.is_none() {
+                ExitCode::SUCCESS
+            } else {
+                ExitCode::FAILURE
+            });
+        }
+        ["three", program, seed, count] => {
+            let report = three_calls(Path::new(program), parse(seed)?, parse(count)?)?;
+            if let Some((images, found)) = &report.difference {
+                writeln!(
+                    stdout,
+                    "seed {}, images {images}: line {} differs",
+                    found.seed, found.line
+                )?;
+                writeln!(stdout, "reference: {}\nprogram:   {}", found.ours, found.theirs)?;
+            }
+            writeln!(
+                stdout,
+                "three: {} triples, {} calls, {} differences",
+                report.triples,
                 report.calls,
                 report.difference.iter().count()
             )?;

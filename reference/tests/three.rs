@@ -84,7 +84,7 @@ impl Three {
         assert_eq!(answer.state, state);
         let mut usual = vec![OLD; 33];
         recover(&mut self.images[chosen].clone(), &mut usual).unwrap();
-        for i in 0..MODULES {
+        for (i, count) in op_counts.into_iter().enumerate() {
             if !self.present[i] {
                 assert_eq!(after.images[i], self.images[i]);
                 assert_eq!(after.op_buffers[i], self.op_buffers[i]);
@@ -92,11 +92,11 @@ impl Three {
             }
             assert_eq!(after.images[i], image);
             let mut words = Vec::new();
-            if op_counts[i] > 11 {
+            if count > 11 {
                 words.extend(repair_words(&self.images[chosen]));
             }
             words.extend(&usual);
-            assert_eq!(words.len(), 3 * op_counts[i]);
+            assert_eq!(words.len(), 3 * count);
             words.resize(self.op_buffers[i].len(), OLD);
             assert_eq!(after.op_buffers[i], words);
         }
