@@ -48,7 +48,7 @@ usage: reference demo                    tell the story that the program demo te
        reference time PROGRAM...         how long each takes to list a full image
        reference time-load PROGRAM...    how long each takes to load the listing of a full image
        reference same-work PROVED PLAIN  whether two bench programs leave the same
-       reference bench PROVED PLAIN C_BENCH [PMEM] [--calls C_CALLS] [--append C_APPEND] [--append-pmem C_APPEND] [--rounds N]
+       reference bench PROVED PLAIN C_BENCH [PMEM] [--calls C_CALLS] [--append C_APPEND] [--append-pmem C_APPEND] [--three C_THREE] [--rounds N]
                                          how long the calls take, case by case
        reference cover SEED N            count what N scripts reach
        reference crash SECONDS [--program PATH] [--seed S] [--shortcut K]
@@ -245,12 +245,14 @@ fn run(args: &[&str]) -> io::Result<ExitCode> {
                 }
                 _ => (None, options),
             };
-            let (mut calls, mut append, mut append_pmem, mut rounds) = (None, None, None, 31);
+            let (mut calls, mut append, mut append_pmem, mut three) = (None, None, None, None);
+            let mut rounds = 31;
             for option in options.chunks(2) {
                 match *option {
                     ["--calls", path] => calls = Some(Path::new(path)),
                     ["--append", path] => append = Some(Path::new(path)),
                     ["--append-pmem", path] => append_pmem = Some(Path::new(path)),
+                    ["--three", path] => three = Some(Path::new(path)),
                     ["--rounds", number] => rounds = parse(number)?,
                     _ => return Err(invalid(format!("not an option: {}", option.join(" ")))),
                 }
@@ -259,7 +261,8 @@ fn run(args: &[&str]) -> io::Result<ExitCode> {
                 return Err(invalid("not a good number: 0".to_string()));
             }
             let (proved, plain, crc) = (Path::new(proved), Path::new(plain), Path::new(crc));
-            let programs = Programs { proved, plain, crc, pmemlog, calls, append, append_pmem };
+            let programs =
+                Programs { proved, plain, crc, pmemlog, calls, append, append_pmem, three };
             let done = bench(&programs, rounds, &mut stdout);
             return no_difference(done, &mut stdout);
         }
