@@ -2,23 +2,21 @@
 -- Cites StepLaws.antt, and Theorem.antt of journal.
 use mathlib.Core.Path.{_≡_, refl, sym, ap, _∙_}
 use mathlib.Core.List.{List, [], _∷_}
-use mathlib.Core.Bool.{Bool, true, false}
-use Prim.Native.Nat.{ℕ, _≤_}
+use mathlib.Core.Bool.{false}
+use Prim.Native.Nat.{ℕ}
 use native.Mathlib.Omega.{arith}
 use lib.ListN.{length}
 use borrow.Author.Tests.{eq-eqb, le-ltb}
-use Rattle.refusal.specs.Tests.{ok, refused, Test, decide}
+use Rattle.refusal.specs.Tests.{ok, Test}
 use Rattle.refusal.proofs.TestLaws.{Decided, passed, failed, decided}
-use Rattle.device.specs.Lent.{Lent, given}
 use Rattle.device.specs.Ops.{apply}
 use Rattle.device.specs.Crash.{carry, powerUp}
 use Rattle.state.specs.declared.State.{State}
 use Rattle.journal.specs.Effect.{done, Effect, refusedEffect, noState}
 use Rattle.journal.specs.Recover.{formatEffect, recoverEffect}
-use Rattle.journal.specs.Calls.{Call, reserve, copy, complete, force, release, releaseAll, recover, effectOf}
+use Rattle.journal.specs.Calls.{reserve, copy, complete, force, release, releaseAll, recover, effectOf}
 use Rattle.journal.specs.AbstractLog.{emptyLog}
 use Rattle.journal.specs.CrashSafe.{System, Event, after, afterAll, AllFit, formatted, Recovers, CrashSafe}
-use Rattle.journal.proofs.SoundnessLaws.{Good}
 use Rattle.journal.proofs.SoundnessRecover.{format-sound}
 use Rattle.journal.proofs.Theorem.{crash-safe}
 use Rattle.words_state.specs.StateWords.{stateSize, stateOf}
@@ -26,7 +24,7 @@ use Rattle.words_shared.specs.StateAfter.{stateAfter}
 use Rattle.c_reply.specs.ReplyWords.{replySize}
 use Rattle.c_reply.specs.LentTests.{lentTests}
 use Rattle.c_write.specs.WriteCalls.{effectOn}
-use Rattle.c_run.specs.CRun.{SystemInC, EventInC, callInC, afterInC, afterAllInC, AllFitInC, formatInC, formattedInC, Contract, ContractsHold, Holds, IsRun, RunsInC, systemOf, RecoversInC, CrashSafeInC}
+use Rattle.c_run.specs.CRun.{SystemInC, EventInC, afterInC, afterAllInC, AllFitInC, formatInC, formattedInC, CallsStep, FormatBegins, RunsInC, RecoversInC, CrashSafeInC}
 use Rattle.c_run.proofs.RefusedLaws.{Both, granted-both, refused-both, recovered, recover-both}
 use Rattle.c_run.proofs.StepLaws.{inWords, Held, held-loaded, Steps, nothing, event, steps}
 
@@ -82,20 +80,20 @@ module _ (old lent : List ℕ) (room : ℕ) (reply : List ℕ) where
     down = false;
   }
 
-  format-begins : {o : Effect} → Decided tests (refusedEffect noState) (formatEffect noState old room) o
+  decided-begins : {o : Effect} → Decided tests (refusedEffect noState) (formatEffect noState old room) o
       → o .reply ≡ ok done → Begun old room (Formatted o)
   unfolding formatted
-  format-begins (passed p) e = record {
+  decided-begins (passed p) e = record {
     granted = e;
     words = stateAfter ((formatEffect noState old room) .reply) ((formatEffect noState old room) .state) lent;
     held = λ up. (rw e refl, format-sound noState old room e);
     is = refl;
   }
-  format-begins (failed w) e = absurd (let z : _≡_ {A = ℕ} 0 1 = cc in omega arith)
+  decided-begins (failed w) e = absurd (let z : _≡_ {A = ℕ} 0 1 = cc in omega arith)
 
   begins : (formatInC old lent room reply) .reply ≡ ok done → Begun old room (formattedInC old lent room reply)
   unfolding formattedInC effectOn
-  begins = format-begins (decided tests (refusedEffect noState) (formatEffect noState old room))
+  begins = decided-begins (decided tests (refusedEffect noState) (formatEffect noState old room))
 
   runs-from : (formatInC old lent room reply) .reply ≡ ok done → (es : List EventInC)
       → AllFitInC es (formattedInC old lent room reply)
@@ -160,12 +158,16 @@ crash-safe-in-c old lent room reply granted es f =
     (crash-safe old room (begins old lent room reply granted .granted) (r .events) (r .fit)))
 
 -- ---------------------------------------------------------------- what the contracts say
-pub contracts-hold : ContractsHold
-unfolding ContractsHold afterInC effectOf
-contracts-hold (reserve kind len) r state image ops reply d s is at = rw (← is, ← at) (d .kept, d .stored)
-contracts-hold (copy lsn offset bytes) r state image ops reply d s is at = rw (← is, ← at) (d .kept, d .stored)
-contracts-hold (complete lsn) r state image ops reply d s is at = rw (← is, ← at) (d .kept, d .stored)
-contracts-hold (force lsn frequency) r state image ops reply d s is at = rw (← is, ← at) (d .kept, d .stored)
-contracts-hold (release lsn) r state image ops reply d s is at = rw (← is, ← at) (d .kept, d .stored)
-contracts-hold releaseAll r state image ops reply d s is at = rw (← is, ← at) (d .kept, d .stored)
-contracts-hold recover r state image ops reply d s is at = rw (← is, ← at) (d .kept, d .stored)
+pub calls-step : CallsStep
+unfolding CallsStep afterInC effectOf
+calls-step (reserve kind len) r state image ops reply d s is at = rw (← is, ← at) (d .kept, d .stored, d .laid)
+calls-step (copy lsn offset bytes) r state image ops reply d s is at = rw (← is, ← at) (d .kept, d .stored, d .laid)
+calls-step (complete lsn) r state image ops reply d s is at = rw (← is, ← at) (d .kept, d .stored, d .laid)
+calls-step (force lsn frequency) r state image ops reply d s is at = rw (← is, ← at) (d .kept, d .stored, d .laid)
+calls-step (release lsn) r state image ops reply d s is at = rw (← is, ← at) (d .kept, d .stored, d .laid)
+calls-step releaseAll r state image ops reply d s is at = rw (← is, ← at) (d .kept, d .stored, d .laid)
+calls-step recover r state image ops reply d s is at = rw (← is, ← at) (d .kept, d .stored, d .laid)
+
+pub format-begins : FormatBegins
+unfolding FormatBegins formattedInC
+format-begins r state image ops reply d = (d .kept, d .stored, d .laid)

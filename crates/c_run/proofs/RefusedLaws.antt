@@ -1,5 +1,5 @@
--- A writing call that is refused returns the state that it was handed; and recover does the same whatever it was handed,
--- but for that state.
+-- A writing call that is refused returns the state that it was handed; and recover does the same whatever it was
+-- handed, but for that state.
 -- Cites Calls.antt of journal.
 use mathlib.Core.Path.{_≡_, refl}
 use mathlib.Core.List.{List, [], _∷_}
@@ -7,7 +7,7 @@ use mathlib.Core.Bool.{Bool, true, false, cond}
 use Prim.Native.Nat.{ℕ, suc, _-_}
 use native.Mathlib.Omega.{arith}
 use lib.Dec.{leb, eqb}
-use Rattle.refusal.specs.Tests.{ok, refused, Test, decide}
+use Rattle.refusal.specs.Tests.{refused, Test, decide}
 use Rattle.refusal.specs.declared.Why.{Why}
 use Rattle.refusal.proofs.TestLaws.{Decided, passed, failed, decided}
 use Rattle.device.specs.Ops.{Op}
@@ -36,7 +36,8 @@ tested-leaves s ts granted h = go (decided ts (refusedEffect s) granted)
 
 module _ (s : State) (image : List ℕ) (words : ℕ) where
   pub refused-leaves : (c : Call) → Leaves s (effectOf c s image words)
-  unfolding effectOf reserveEffect copyEffect completeEffect forceEffect forceStretch releaseEffect releaseAllEffect recoverEffect
+  unfolding effectOf reserveEffect copyEffect completeEffect forceEffect forceStretch releaseEffect releaseAllEffect
+      recoverEffect
   refused-leaves (reserve kind len) = tested-leaves s (reserveTests s image words kind len) _
       (granted-leaves s (reserved (s .«next_lsn») (s .«next_pos»)) (reserveState s kind len) (reserveOps s kind len))
   refused-leaves (copy lsn offset bytes) = tested-leaves s (copyTests s image words lsn offset bytes) _

@@ -1,13 +1,13 @@
 -- An event for C is an event of demand 3, or changes nothing: a call that the lent words refuse. The words hold the
 -- state, which is good, as long as the log is not down.
 -- Cites specs/CRun.antt, Soundness.antt of journal, and RoundTrip.antt of words_state.
-use mathlib.Core.Path.{_≡_, refl, sym, ap, _∙_}
-use mathlib.Core.List.{List, []}
+use mathlib.Core.Path.{_≡_, refl, ap, _∙_}
+use mathlib.Core.List.{List}
 use mathlib.Core.Bool.{Bool, true, false, true≢false, false≢true}
 use Prim.Native.Nat.{ℕ, _≤_}
 use native.Mathlib.Omega.{arith}
 use lib.ListN.{length, take}
-use Rattle.refusal.specs.Tests.{Reply, ok, refused, Test, decide}
+use Rattle.refusal.specs.Tests.{Reply, ok, refused, Test}
 use Rattle.refusal.specs.declared.Why.{Why}
 use Rattle.refusal.proofs.TestLaws.{Decided, passed, failed, decided}
 use Rattle.device.specs.Ops.{apply}

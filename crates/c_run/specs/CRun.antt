@@ -1,13 +1,14 @@
 -- Demand 3 for a program in C: lists of calls for C with power failures, on words that the program lends, and what is
 -- claimed of them. Beside each definition of CrashSafe.antt of journal stands the one for C.
--- Cites WriteCalls.antt of c_write, StateAfter.antt of words_shared, StateWords.antt of words_state, and CrashSafe.antt.
+-- Cites WriteCalls.antt of c_write, StateAfter.antt of words_shared, StateWords.antt of words_state, and
+-- CrashSafe.antt.
 use mathlib.Core.Path.{_≡_}
 use mathlib.Core.List.{List, [], _∷_}
 use mathlib.Core.Bool.{Bool, true, false}
 use Prim.Native.Nat.{ℕ, _-_, _≤_, _<_}
 use lib.IntN.{ℤ}
 use lib.ListN.{length, take}
-use Rattle.device.specs.Ops.{apply}
+use Rattle.device.specs.Ops.{apply, lay}
 use Rattle.device.specs.Lent.{Lent, given, left, room}
 use Rattle.device.specs.Crash.{Device, carry, CrashImage, powerUp}
 use Rattle.refusal.specs.Tests.{ok}
@@ -43,20 +44,20 @@ pub data EventInC : Type 0 where
 
 -- what a call does through the words. Recover is handed no state.
 abbrev pub effectInC : SystemInC → Call → ℕ → List ℕ → Effect
-effectInC s c words reply =
+effectInC s c opsRoom reply =
     effectOn reply (s .words) (s .image)
-    (λ held. effectOf c (leftBy (isRecover c) withReturned held) (s .image) words)
+    (λ held. effectOf c (leftBy (isRecover c) withReturned held) (s .image) opsRoom)
 
 -- a call that is refused leaves the words: its caller goes on with the state that it held
 unfoldable pub afterInC : EventInC → SystemInC → SystemInC
-afterInC (callInC c words reply) s = let o = effectInC s c words reply in record {
+afterInC (callInC c opsRoom reply) s = let o = effectInC s c opsRoom reply in record {
   image = apply (o .ops) (s .image);
   device = carry (o .ops) (s .device);
   words = stateAfter (o .reply) (o .state) (s .words);
   log = feed c (o .reply) (length (o .ops)) (length (o .ops)) (s .log);
   down = stillDown (s .down) (o .reply);
 }
-afterInC (crashInC c words reply carried image lent) s = let o = effectInC s c words reply in record {
+afterInC (crashInC c opsRoom reply carried image lent) s = let o = effectInC s c opsRoom reply in record {
   image = image;
   device = powerUp image;
   words = lent;
@@ -67,11 +68,11 @@ afterInC (crashInC c words reply carried image lent) s = let o = effectInC s c w
 -- an event that can happen: only recoveries while down; a crash comes after some of the call's ops and leaves an image
 -- that the module's words may hold
 abbrev pub FitsInC : EventInC → SystemInC → Type 0
-FitsInC (callInC c words reply) s = Typed c × (s .down ≡ true → isRecover c ≡ true)
-FitsInC (crashInC c words reply carried image lent) s =
+FitsInC (callInC c opsRoom reply) s = Typed c × (s .down ≡ true → isRecover c ≡ true)
+FitsInC (crashInC c opsRoom reply carried image lent) s =
     Typed c × (s .down ≡ true → isRecover c ≡ true)
-    × (carried ≤ length ((effectInC s c words reply) .ops))
-    × CrashImage (carry (take carried ((effectInC s c words reply) .ops)) (s .device)) (length (s .image)) image
+    × (carried ≤ length ((effectInC s c opsRoom reply) .ops))
+    × CrashImage (carry (take carried ((effectInC s c opsRoom reply) .ops)) (s .device)) (length (s .image)) image
 
 unfoldable pub afterAllInC : List EventInC → SystemInC → SystemInC
 afterAllInC [] s = s
@@ -83,10 +84,10 @@ AllFitInC (e ∷ es) s = FitsInC e s × AllFitInC es (afterInC e s)
 
 -- format over any old contents of the image and of the words
 abbrev pub formatInC : List ℕ → List ℕ → ℕ → List ℕ → Effect
-formatInC old lent words reply = effectOn reply lent old (λ held. formatEffect noState old words)
+formatInC old lent opsRoom reply = effectOn reply lent old (λ held. formatEffect noState old opsRoom)
 
 unfoldable pub formattedInC : List ℕ → List ℕ → ℕ → List ℕ → SystemInC
-formattedInC old lent words reply = let o = formatInC old lent words reply in record {
+formattedInC old lent opsRoom reply = let o = formatInC old lent opsRoom reply in record {
   image = apply (o .ops) old;
   device = carry (o .ops) (powerUp old);
   words = stateAfter (o .reply) (o .state) lent;
@@ -111,12 +112,24 @@ Contract releaseAll r state image ops reply =
 Contract recover r state image ops reply =
     Through (λ s. recoverEffect noState (given image) (room ops)) r state image ops reply
 
--- what is lent to a call at entry, and what it leaves in a system after the call: the event is what the contract says
-unfoldable pub ContractsHold : Type 0
-ContractsHold =
+-- so a call that is lent a system's words and image leaves those of the system after its event, and in the op buffer
+-- the ops that are carried out there
+unfoldable pub CallsStep : Type 0
+CallsStep =
     (c : Call) (r : ℤ) (state image ops reply : Lent) → Contract c r state image ops reply
     → (s : SystemInC) → given state ≡ s .words → given image ≡ s .image
-    → let t = afterInC (callInC c (room ops) (given reply)) s in (left state ≡ t .words) × (left image ≡ t .image)
+    → let t = afterInC (callInC c (room ops) (given reply)) s in
+    (left state ≡ t .words) × (left image ≡ t .image)
+    × (left ops ≡ lay ((effectInC s c (room ops) (given reply)) .ops) (given ops))
+
+-- and a format leaves those of a freshly formatted log
+unfoldable pub FormatBegins : Type 0
+FormatBegins =
+    (r : ℤ) (state image ops reply : Lent)
+    → Through (λ s. formatEffect noState (given image) (room ops)) r state image ops reply
+    → let t = formattedInC (given image) (given state) (room ops) (given reply) in
+    (left state ≡ t .words) × (left image ≡ t .image)
+    × (left ops ≡ lay ((formatInC (given image) (given state) (room ops) (given reply)) .ops) (given ops))
 
 -- a system for C is one of demand 3, with its state put into the words. While down the words hold anything.
 pub record Holds (t : SystemInC) (s : System) : Type 0 where
@@ -128,17 +141,17 @@ pub record Holds (t : SystemInC) (s : System) : Type 0 where
   pub state : t .down ≡ false → stateOf (t .words) ≡ s .state
 
 -- it is one that a list of events of demand 3 leads to
-pub record IsRun (old : List ℕ) (words : ℕ) (t : SystemInC) : Type 0 where
+pub record IsRun (old : List ℕ) (opsRoom : ℕ) (t : SystemInC) : Type 0 where
   pub events : List Event
-  pub fit : AllFit events (formatted old words)
-  pub holds : Holds t (afterAll events (formatted old words))
+  pub fit : AllFit events (formatted old opsRoom)
+  pub holds : Holds t (afterAll events (formatted old opsRoom))
 
 -- a run of the calls for C is a run of demand 3
 unfoldable pub RunsInC : Type 0
 RunsInC =
-    (old lent : List ℕ) (words : ℕ) (reply : List ℕ) → (formatInC old lent words reply) .reply ≡ ok done
-    → (es : List EventInC) → AllFitInC es (formattedInC old lent words reply)
-    → IsRun old words (afterAllInC es (formattedInC old lent words reply))
+    (old lent : List ℕ) (opsRoom : ℕ) (reply : List ℕ) → (formatInC old lent opsRoom reply) .reply ≡ ok done
+    → (es : List EventInC) → AllFitInC es (formattedInC old lent opsRoom reply)
+    → IsRun old opsRoom (afterAllInC es (formattedInC old lent opsRoom reply))
 
 -- the system of demand 3 with the state that the words hold
 abbrev pub systemOf : SystemInC → System
@@ -153,13 +166,13 @@ systemOf t = record {
 -- what the next recovery owes: all that demand 3 says, and that it succeeds through the words, whatever they hold
 pub record RecoversInC (t : SystemInC) : Type 0 where
   pub owes : Recovers (systemOf t)
-  pub succeeds : (lent : List ℕ) (words : ℕ) (reply : List ℕ) → length lent ≡ stateSize → replySize ≤ length reply
-      → 33 ≤ words → activeWord (t .image) 4 < noMoreEpoch - 1
-      → (effectOn reply lent (t .image) (λ held. recoverEffect noState (t .image) words)) .reply ≡ ok done
+  pub succeeds : (lent : List ℕ) (opsRoom : ℕ) (reply : List ℕ) → length lent ≡ stateSize → replySize ≤ length reply
+      → 33 ≤ opsRoom → activeWord (t .image) 4 < noMoreEpoch - 1
+      → (effectOn reply lent (t .image) (λ held. recoverEffect noState (t .image) opsRoom)) .reply ≡ ok done
 
 -- Demand 3 for C: after every list of events on a freshly formatted log, the next recovery owes all that
 unfoldable pub CrashSafeInC : Type 0
 CrashSafeInC =
-    (old lent : List ℕ) (words : ℕ) (reply : List ℕ) → (formatInC old lent words reply) .reply ≡ ok done
-    → (es : List EventInC) → AllFitInC es (formattedInC old lent words reply)
-    → RecoversInC (afterAllInC es (formattedInC old lent words reply))
+    (old lent : List ℕ) (opsRoom : ℕ) (reply : List ℕ) → (formatInC old lent opsRoom reply) .reply ≡ ok done
+    → (es : List EventInC) → AllFitInC es (formattedInC old lent opsRoom reply)
+    → RecoversInC (afterAllInC es (formattedInC old lent opsRoom reply))
