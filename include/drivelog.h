@@ -36,7 +36,7 @@ extern "C" {
  * first that fails decides; while the log is read, DRIVELOG_TOO_MANY is tested before DRIVELOG_DAMAGED at each record. */
 enum drivelog_refusal {
     DRIVELOG_IMAGE_SIZE = 1,      /* the image has not 40 to 8,192 words (320 to 65,536 bytes, a multiple of 8), or not the state's size */
-    DRIVELOG_UNSOUND = 2,         /* the state, or the cursor, is none that a call left, or has not its count of words */
+    DRIVELOG_UNSOUND = 2,         /* the state, or the cursor, is not sound, or has not its count of words */
     DRIVELOG_ARGUMENT = 3,        /* a kind, length, position or frequency is out of its range */
     DRIVELOG_SUPERLINE = 4,       /* the words that say where the log begins are wrong: no log, or one of another size */
     DRIVELOG_NOT_LIVE = 5,        /* no live record has this LSN */
@@ -198,8 +198,9 @@ int64_t drivelog_payload_at(const uint8_t *image, size_t bytes, uint64_t pos, ui
  *             flush(ops[3 * i + 1], ops[3 * i + 2]);
  *
  * State: DRIVELOG_STATE_WORDS words that the program keeps and lends to each call. drivelog_format or drivelog_recover fills them, and
- * nobody else need know what they hold. Words that no call left are no state: the calls decline them with DRIVELOG_UNSOUND, whatever
- * they hold.
+ * nobody else need know what they hold. Every call tests them, and declines with DRIVELOG_UNSOUND words that hold no sound state. It
+ * cannot tell who made them: a sound state made by hand, or an older one of the same log, is taken for the state. So lend the words that
+ * the call before left, and after a crash any words to drivelog_recover.
  *
  * Reply: four words or more that each call writes, in the order of the enum below, whether it is granted or declined. What stands
  * behind them stays.
@@ -207,9 +208,9 @@ int64_t drivelog_payload_at(const uint8_t *image, size_t bytes, uint64_t pos, ui
  * A call returns 0 or more, or minus the number of a refusal. A call that declines alters no word that it is lent but the reply's. A
  * reply of fewer than four words is declined before all else with DRIVELOG_OUTPUT_SHORT, and then nothing is altered.
  *
- * Every call answers for every input, as crates/c_write/specs and c_read/specs define it over crates/journal/specs; that is proved, and
- * so is what a crash leaves of a log that is written so (docs/PROOF.md). Counts are of words, not bytes; an image's words are
- * little-endian in bytes.
+ * Every call answers for every input, as crates/c_write/specs and c_read/specs define it over crates/journal/specs; that is proved. So is
+ * what a crash leaves of a log that these calls format and write, each on the words and the image that the one before left
+ * (crates/c_run/specs/CRun.antt, docs/PROOF.md). Counts are of words, not bytes; an image's words are little-endian in bytes.
  *
  * Memory: each pointer is to as many words as the count behind it says, `bytes` to `count` bytes. They need the alignment of their
  * type. Where the count is 0 the pointer is not followed and may be null. What is written may overlap nothing else that is lent to
@@ -387,7 +388,7 @@ int64_t drivelog_next(const uint64_t *image, size_t image_words, uint64_t *curso
    given too: their mark is 2.
 
      Returns 1 with a record; 0 at the end, whose LSN is the second value, and then cursor and record stay; or -DRIVELOG_OUTPUT_SHORT
-   (fewer words lent for cursor or record), -DRIVELOG_IMAGE_SIZE, -DRIVELOG_UNSOUND (no cursor that open or next left),
+   (fewer words lent for cursor or record), -DRIVELOG_IMAGE_SIZE, -DRIVELOG_UNSOUND (the cursor is not sound),
    -DRIVELOG_TOO_MANY or -DRIVELOG_DAMAGED, whose second value is the test that the record fails.
 
      Example:
