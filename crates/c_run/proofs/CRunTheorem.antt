@@ -17,16 +17,29 @@ use Rattle.journal.specs.Recover.{formatEffect, recoverEffect}
 use Rattle.journal.specs.Calls.{reserve, copy, complete, force, release, releaseAll, recover, effectOf}
 use Rattle.journal.specs.AbstractLog.{emptyLog}
 use Rattle.journal.specs.CrashSafe.{System, Event, after, afterAll, AllFit, formatted, Recovers, CrashSafe}
-use Rattle.journal.proofs.SoundnessRecover.{format-sound}
+use Rattle.journal.proofs.SoundnessLaws.{Good}
+use Rattle.journal.proofs.SoundnessRecover.{format-sound, recover-sound}
+use Rattle.journal.proofs.Soundness.{calls-good}
 use Rattle.journal.proofs.Theorem.{crash-safe}
 use Rattle.words_state.specs.StateWords.{stateSize, stateOf}
+use Rattle.words_state.proofs.RoundTrip.{load-saved}
 use Rattle.words_shared.specs.StateAfter.{stateAfter}
 use Rattle.c_reply.specs.ReplyWords.{replySize}
 use Rattle.c_reply.specs.LentTests.{lentTests}
 use Rattle.c_write.specs.WriteCalls.{effectOn}
-use Rattle.c_run.specs.CRun.{SystemInC, EventInC, afterInC, afterAllInC, AllFitInC, formatInC, formattedInC, CallsStep, FormatBegins, RunsInC, RecoversInC, CrashSafeInC}
+use Rattle.c_run.specs.CRun.{LeftByCalls, formatLeft, recoverLeft, callLeft, LoadsSaved, SystemInC, EventInC, afterInC, afterAllInC, AllFitInC, formatInC, formattedInC, CallsStep, FormatBegins, RunsInC, RecoversInC, CrashSafeInC}
 use Rattle.c_run.proofs.RefusedLaws.{Both, granted-both, refused-both, recovered, recover-both}
 use Rattle.c_run.proofs.StepLaws.{inWords, Held, held-loaded, Steps, nothing, event, steps}
+
+-- ---------------------------------------------------------------- states
+left-good : (s : State) → LeftByCalls s → Good s
+left-good s (formatLeft image room granted) = format-sound noState image room granted
+left-good s (recoverLeft image room granted) = recover-sound noState image room granted
+left-good s (callLeft c {s = t} image room left) = calls-good c t image room (left-good t left)
+
+pub loads-saved : LoadsSaved
+unfolding LoadsSaved
+loads-saved s left = let g = left-good s left in load-saved s (g .sound) (g .size)
 
 -- ---------------------------------------------------------------- a run
 -- a system for C that a list of events of demand 3 leads to

@@ -1,5 +1,6 @@
--- Demand 3 for a program in C: lists of calls for C with power failures, on words that the program lends, and what is
--- claimed of them. Beside each definition of CrashSafe.antt of journal stands the one for C.
+-- Demand 3 for a program in C: a state is read from its words as it was; lists of calls for C with power failures, on
+-- words that the program lends, and what is claimed of them. Each definition of CrashSafe.antt of journal has one for
+-- C.
 -- Cites WriteCalls.antt of c_write, StateAfter.antt of words_shared, StateWords.antt of words_state, and
 -- CrashSafe.antt.
 use mathlib.Core.Path.{_≡_}
@@ -13,6 +14,7 @@ use Rattle.device.specs.Lent.{Lent, given, left, room}
 use Rattle.device.specs.Crash.{Device, carry, CrashImage, powerUp}
 use Rattle.refusal.specs.Tests.{ok}
 use Rattle.layout.specs.Superline.{activeWord, noMoreEpoch}
+use Rattle.state.specs.declared.State.{State}
 use Rattle.journal.specs.Effect.{done, Effect, noState}
 use Rattle.journal.specs.Append.{reserveEffect, copyEffect, completeEffect}
 use Rattle.journal.specs.Force.{forceEffect}
@@ -25,6 +27,20 @@ use Rattle.words_state.specs.StateWords.{stateSize, wordsOf, stateOf}
 use Rattle.words_shared.specs.StateAfter.{stateAfter}
 use Rattle.c_reply.specs.ReplyWords.{replySize}
 use Rattle.c_write.specs.WriteCalls.{effectOn, Through}
+
+-- a state that calls leave, on whatever images: that of a format or a recovery that is granted, and that of any call on
+-- such a state
+pub data LeftByCalls : State → Type 0 where
+  formatLeft : (image : List ℕ) (opsRoom : ℕ) → (formatEffect noState image opsRoom) .reply ≡ ok done
+      → LeftByCalls ((formatEffect noState image opsRoom) .state)
+  recoverLeft : (image : List ℕ) (opsRoom : ℕ) → (recoverEffect noState image opsRoom) .reply ≡ ok done
+      → LeftByCalls ((recoverEffect noState image opsRoom) .state)
+  callLeft : (c : Call) {s : State} (image : List ℕ) (opsRoom : ℕ) → LeftByCalls s
+      → LeftByCalls ((effectOf c s image opsRoom) .state)
+
+-- it is read from its words as it was
+unfoldable pub LoadsSaved : Type 0
+LoadsSaved = (s : State) → LeftByCalls s → stateOf (wordsOf s) ≡ s
 
 -- working image, module, the words of the state, and abstract log; down: power failed, and no recovery has succeeded
 -- uncut since
