@@ -1,6 +1,6 @@
 -- Demand 3 for a program in C: a state is read from its words as it was; lists of calls for C with power failures, on
--- words that the program lends, and what is claimed of them. The definitions are those of CrashSafe.antt of journal, for
--- C.
+-- words that the program lends, and what is claimed of them. The definitions are those of CrashSafe.antt of journal,
+-- for C.
 -- Cites WriteCalls.antt of c_write, StateAfter.antt of words_shared, StateWords.antt of words_state, and CrashSafe.antt
 -- of journal.
 use mathlib.Core.Path.{_≡_}
