@@ -56,16 +56,16 @@ fn read_bytes(bytes: &mut [u8], count: u64) -> bool {
     got == size
 }
 
-// How many arguments each command has, by its number; 7 where there is no such command.
-const ARGUMENTS: [u8; 32] = *b"02222667770231210077003777777720";
-
-// How many arguments a command has; 7 where there is no such command. The digits' codes leave their values modulo 8.
+// How many arguments a command has; 7 where there is no such command.
 fn argument_count(number: u64) -> u64 {
-    if number < 32 {
-        let digit = ARGUMENTS[number as usize];
-        return (digit % 8) as u64;
+    match number {
+        0 | 10 | 16 | 17 | 20 | 21 | 31 => 0,
+        13 | 15 => 1,
+        1 | 2 | 3 | 4 | 11 | 14 | 30 => 2,
+        12 | 22 => 3,
+        5 | 6 => 6,
+        _ => 7,
     }
-    7
 }
 
 // Whether a command exceeds a limit: its count of words, or of bytes.

@@ -26,29 +26,11 @@ pub fn put_byte(out: &mut [u8; TEXT_SIZE], byte: u8) {
     }
 }
 
-// The words of all lines, each with the blank before it and a slash after it: the tests of a damaged record from 1 on,
-// each command's at its number, the answers from 23 on.
-const WORDS_SIZE: usize = 196;
-
-const WORDS: [u8; WORDS_SIZE] = *b"/ mark/ kind/ length/ fit/ LSN/ check/ epoch///\
-    format/reserve/copy/complete/force/release/releaseall/takeup///open/next/fetch/ \
-    ok/ kept/ putoff/ record/ end/ refused//words/state/ orders/ =/ s/ f/";
-
-// Puts word `k`.
-pub fn put_word(out: &mut [u8; TEXT_SIZE], k: u64) {
-    let words = WORDS;
-    let mut before = k;
+// Puts a text.
+pub fn put_text(out: &mut [u8; TEXT_SIZE], text: &[u8]) {
     let mut i: usize = 0;
-    while i < WORDS_SIZE {
-        let byte = words[i];
-        if byte == b'/' {
-            if before == 0 {
-                return;
-            }
-            before -= 1;
-        } else if before == 0 {
-            put_byte(out, byte);
-        }
+    while i < text.len() {
+        put_byte(out, text[i]);
         i += 1;
     }
 }
@@ -68,24 +50,19 @@ pub fn put_number(out: &mut [u8; TEXT_SIZE], before: u8, n: u64) {
     }
 }
 
-// The words of ops.
-const STORE: u64 = 34;
-
-const FLUSH: u64 = 35;
-
-// Puts a number after a blank, or if it begins an op the word for what that does.
+// Puts a number after a blank, or if it begins an op the letter for what that does.
 fn put_value(out: &mut [u8; TEXT_SIZE], value: u64, begins_op: bool) {
     if begins_op {
-        put_word(out, if value == 1 { STORE } else { FLUSH });
+        put_byte(out, b' ');
+        put_byte(out, if value == 1 { b's' } else { b'f' });
         return;
     }
     put_number(out, b' ', value);
 }
 
-// Puts word `k` and numbers, the first `count` of them at most. They may be ops of three numbers each: a store with its
-// word and value, or a flush with its first word and count.
-pub fn put_numbers(out: &mut [u8; TEXT_SIZE], k: u64, values: &[u64], count: u64, are_ops: bool) {
-    put_word(out, k);
+// Puts numbers, the first `count` of them at most. They may be ops of three numbers each: a store with its word and
+// value, or a flush with its first word and count.
+pub fn put_numbers(out: &mut [u8; TEXT_SIZE], values: &[u64], count: u64, are_ops: bool) {
     let mut i: usize = 0;
     while i < values.len() {
         if i as u64 == count {

@@ -7,7 +7,7 @@ use crate::output::end_line;
 use crate::output::put_byte;
 use crate::output::put_number;
 use crate::output::put_numbers;
-use crate::output::put_word;
+use crate::output::put_text;
 use state::TABLE_SIZE;
 use state::stage_number;
 use words_state::FIRST_ENTRY;
@@ -16,26 +16,68 @@ use words_state::entry_from;
 ghost use Prim.Native.Nat.{_<_};
 ghost use Rattle.state.specs.Table.{tableSize};
 
-// What a call answered: its word in the text of `put_word`, how many of the numbers stand after it, and after them
-// the test that a damaged record fails, 0 if there is none; and how many ops the call made.
+// The word of an answer.
+pub enum AnswerWord {
+    Ok,
+    Kept,
+    PutOff,
+    Record,
+    End,
+    Refused,
+}
+
+// What a call answered: its word, how many of the numbers stand after it, and after them the test that a damaged record
+// fails, 0 if there is none; and how many ops the call made.
 pub struct Said {
-    pub word: u64,
+    pub word: AnswerWord,
     pub count: u64,
     pub numbers: [u64; 6],
     pub damage: u64,
     pub ops: u64,
 }
 
-// Words of the lines, by their places in the text of `put_word`; those of a command by its number.
-const NO_WORD: u64 = 0;
+// Puts the name of a call, by the number of its command.
+fn put_call(out: &mut [u8; TEXT_SIZE], number: u64) {
+    match number {
+        10 => put_text(out, b"format"),
+        11 => put_text(out, b"reserve"),
+        12 => put_text(out, b"copy"),
+        13 => put_text(out, b"complete"),
+        14 => put_text(out, b"force"),
+        15 => put_text(out, b"release"),
+        16 => put_text(out, b"releaseall"),
+        17 => put_text(out, b"takeup"),
+        20 => put_text(out, b"open"),
+        21 => put_text(out, b"next"),
+        _ => put_text(out, b"fetch"),
+    }
+}
 
-const WORDS: u64 = 30;
+// Puts the word of an answer.
+fn put_word(out: &mut [u8; TEXT_SIZE], word: AnswerWord) {
+    match word {
+        AnswerWord::Ok => put_text(out, b" ok"),
+        AnswerWord::Kept => put_text(out, b" kept"),
+        AnswerWord::PutOff => put_text(out, b" putoff"),
+        AnswerWord::Record => put_text(out, b" record"),
+        AnswerWord::End => put_text(out, b" end"),
+        AnswerWord::Refused => put_text(out, b" refused"),
+    }
+}
 
-const STATE: u64 = 31;
-
-const ORDERS: u64 = 32;
-
-const DIGESTS: u64 = 33;
+// Puts the test that a damaged record fails, by its number; nothing where there is none.
+fn put_damage(out: &mut [u8; TEXT_SIZE], damage: u64) {
+    match damage {
+        1 => put_text(out, b" mark"),
+        2 => put_text(out, b" kind"),
+        3 => put_text(out, b" length"),
+        4 => put_text(out, b" fit"),
+        5 => put_text(out, b" LSN"),
+        6 => put_text(out, b" check"),
+        7 => put_text(out, b" epoch"),
+        _ => {}
+    }
+}
 
 // The five numbers of entry `i` of the table: place, length, kind, stage, epoch.
 fn entry_numbers(state: &[u64; STATE_WORDS], i: usize) -> [u64; 5]
@@ -69,9 +111,9 @@ fn state_digest(state: &[u64; STATE_WORDS]) -> u64 {
 // Puts the count of ops, and each op as it stands in the op buffer. The remainder is the count itself, and keeps the
 // product from wrapping.
 fn put_ops(out: &mut [u8; TEXT_SIZE], ops: &[u64], count: u64) {
-    put_word(out, ORDERS);
+    put_text(out, b" orders");
     put_number(out, b' ', count);
-    put_numbers(out, NO_WORD, ops, 3 * (count % 65536), true);
+    put_numbers(out, ops, 3 * (count % 65536), true);
 }
 
 // Puts the numbers of a table entry unless it is free: its index, its three numbers, its stage's and its epoch.
@@ -81,13 +123,14 @@ fn put_entry(out: &mut [u8; TEXT_SIZE], i: usize, numbers: [u64; 5]) {
     }
     put_byte(out, b' ');
     put_number(out, b'[', i as u64);
-    put_numbers(out, NO_WORD, &numbers, 5, false);
+    put_numbers(out, &numbers, 5, false);
     put_byte(out, b']');
 }
 
 // Prints the state: its eight numbers, and the table entries that are not free.
 fn print_state(out: &mut [u8; TEXT_SIZE], state: &[u64; STATE_WORDS]) {
-    put_numbers(out, STATE, state, FIRST_ENTRY as u64, false);
+    put_text(out, b"state");
+    put_numbers(out, state, FIRST_ENTRY as u64, false);
     let mut i: usize = 0;
     while i < TABLE_SIZE {
         put_entry(out, i, entry_numbers(state, i));
@@ -99,16 +142,19 @@ fn print_state(out: &mut [u8; TEXT_SIZE], state: &[u64; STATE_WORDS]) {
 // Prints `count` words of the image from `first` on, as far as they exist.
 fn print_words(out: &mut [u8; TEXT_SIZE], image: &[u64], first: u64, count: u64) {
     let start = limited(first, image.len());
-    put_numbers(out, WORDS, &image[start..], count, false);
+    put_text(out, b"words");
+    put_numbers(out, &image[start..], count, false);
     end_line(out);
 }
 
 // Begins the line of a call: its name and answer, with the word of a damaged record's test.
 fn put_answer(out: &mut [u8; TEXT_SIZE], number: u64, said: Said) {
+    let word = said.word;
     let numbers = said.numbers;
-    put_word(out, number);
-    put_numbers(out, said.word, &numbers, said.count, false);
-    put_word(out, said.damage);
+    put_call(out, number);
+    put_word(out, word);
+    put_numbers(out, &numbers, said.count, false);
+    put_damage(out, said.damage);
 }
 
 // Ends the line of a call: the digests of the image, the op buffer and the state, and where there are four also that of
@@ -127,7 +173,8 @@ fn print_digests(
         state_digest(state),
         digest::of_bytes(output),
     ];
-    put_numbers(out, DIGESTS, &digests, count, false);
+    put_text(out, b" =");
+    put_numbers(out, &digests, count, false);
     end_line(out);
 }
 
@@ -163,11 +210,11 @@ pub fn print(
     if number < 10 {
         return;
     }
-    if number == WORDS {
+    if number == 30 {
         print_words(out, image, c.first, c.second);
         return;
     }
-    if number == STATE {
+    if number == 31 {
         print_state(out, state);
         return;
     }

@@ -15,6 +15,6 @@ abbrev μ-loop : tie.MeasureT-loop
 pub print-state-spec : {M : Type 1} → statement M
 print-state-spec =
     tie.close
-    (tie.spec Inv-loop μ-loop (λ c. λ κs. search needs) (λ c. search needs) (λ c. λ κs. search needs)
-    (λ c. λ κs. search needs) (λ c. search needs) (λ c. search needs) (λ c. search needs)
-    (λ c. λ κs. search needs) (λ c. search needs))
+    (tie.spec Inv-loop μ-loop (λ c. search needs) (λ c. λ κs. search needs) (λ c. λ κs. search needs)
+    (λ c. search needs) (λ c. λ κs. search needs) (λ c. λ κs. search needs) (λ c. search needs)
+    (λ c. search needs) (λ c. search needs) (λ c. λ κs. search needs) (λ c. search needs))
