@@ -1,10 +1,10 @@
 /* How much stack each call of include/drivelog.h needs: `stack MOST MOST_ON_WORDS MOST_ON_A_RECORD MOST_ON_THREE IMAGE` makes each of
- * them in a thread whose stack was painted before, and looks how far down the paint is gone. Those that read bytes go over the image in that file, the
- * others over a log of their own.
+ * them in a thread whose stack was painted before, and looks how far down the paint is gone. Those that read bytes go over the image in
+ * that file, the others over a log of their own.
  *
  * Standard output: a line a call, its name and the bytes. Status 1 if one that reads bytes needs more than MOST, one of reserve, copy,
- * complete and release more than MOST_ON_A_RECORD, the recovery of three more than MOST_ON_THREE, or another one that works on words more than MOST_ON_WORDS, 2 if it could not be
- * tried. */
+ * complete and release more than MOST_ON_A_RECORD, the recovery of three more than MOST_ON_THREE, or another one that works on words
+ * more than MOST_ON_WORDS, 2 if it could not be tried. */
 
 #define _DEFAULT_SOURCE
 #include "drivelog.h"
