@@ -1,28 +1,43 @@
-# demo: the log in a minute, with a power failure, and a log in a file whose writer is killed. test: the gate. prove: every function and
-# theorem, with no program run. list: the records of a sample module. load: an image made from a sample listing, and listed again. lib:
-# the calls for C, proved, as target/lib/libdrivelog.a (include/drivelog.h). tool: the command-line tool target/bin/drivelog, which stands
-# on them. compare, calls, why, loads, crash: the built programs and the calls for C against the reference for longer, as
-# `make compare SCRIPTS=1000`, `make calls SCRIPTS=1000`, `make why SCRIPTS=1000`, `make loads SCRIPTS=1000`, `make crash SECONDS=600`.
-# kill: processes killed, and modules whose power fails, in the middle of writing, as `make kill SECONDS=600 SEED=7`. bench: how long the
-# calls take beside plain Rust, zlib and libpmemlog. speed: how long loglist takes for a full image, beside one in plain Rust.
-# docs/TESTING.md says what the tests show, docs/SPEED.md what the times say.
+# `make help` lists the targets. docs/TESTING.md says what the tests show, docs/SPEED.md what the times say.
 
 SCRIPTS ?= 1000
 SECONDS ?= 60
 SEED ?= 1
+ROUNDS ?= 31
 reference = reference/target/release/reference
+archive = target/lib/libdrivelog.a
+tool = target/bin/drivelog
 # The crates whose functions are the calls for C: those that read an image's bytes, and those of the log with its state in lent words.
-c_crates = query creads ccalls
-.PHONY: demo list load lib tool prove test compare calls why loads crash kill speed bench bench-c programs
+c_crates = c_query c_read c_write
+# What the archive is made of: the files of these crates and of all that they stand on.
+c_sources := $(shell tools/sources $(c_crates))
+cli_c = $(wildcard cli/*.c) driver/driver.c
+cli_h = $(wildcard cli/*.h driver/*.h include/*.h)
 
-# Says crate by crate how far the proofs are; what the check says is shown only if it fails.
-demo:
-	@mkdir -p target && tools/progress target/demo.log tools/rt check demo
-	@target/bin/demo
-	@echo
-	@tools/progress target/demo.log make --silent lib
-	@$(MAKE) --silent tool > target/demo.log 2>&1 || { cat target/demo.log; exit 1; }
-	@tests/cli/demo target/bin/drivelog
+.PHONY: help demo list load lib tool prove test programs reference
+.PHONY: compare compare-calls compare-c compare-why compare-load crash kill bench bench-c speed
+
+help:
+	@echo "make demo          a log in a file, whose writer is killed in the middle, recovered and listed"
+	@echo "make test          the gate: proofs from nothing, edits that must be refused, all comparisons; .ci/run calls it"
+	@echo "make prove         every function and theorem from nothing, with no program run"
+	@echo "make lib           the calls for C, proved: $(archive), for include/drivelog.h"
+	@echo "make tool          the command-line tool $(tool), over that archive and driver/"
+	@echo "make list          the records of a sample module, by loglist"
+	@echo "make load          an image made from a sample listing by logload, and listed again"
+	@echo "make compare       all four comparisons with the reference, SCRIPTS=1000 SEED=1:"
+	@echo "  compare-calls    the eleven calls, on random scripts, and loglist on random images"
+	@echo "  compare-c        the calls for C, on images and scripts"
+	@echo "  compare-why      logwhy"
+	@echo "  compare-load     logload, and loglist on what it writes"
+	@echo "make crash         the crash bench: power failures in random histories, SECONDS=60 SEED=1"
+	@echo "make kill          processes killed and modules whose power fails, SECONDS=60 SEED=1"
+	@echo "make bench         how long the calls take beside plain Rust, zlib and libpmemlog, ROUNDS=31"
+	@echo "make speed         how long loglist takes for a full image, beside one in plain Rust"
+
+
+demo: tool
+	@tests/cli/demo $(tool)
 
 list:
 	tools/rt check loglist
@@ -32,16 +47,18 @@ load:
 	tools/rt check logload loglist
 	target/bin/logload < crates/logload/stdin | target/bin/loglist
 
-# One object of each crate; what a crate does not export is local to its object. One after the other: two rt in one target/ disturb each other.
-lib:
-	for crate in $(c_crates); do tools/rt staticlib $$crate || exit 1; done
-	rm -rf target/lib && mkdir -p target/lib
-	cd target/lib && for crate in $(c_crates); do ar x ../staticlib/lib$$crate.a || exit 1; done
-	cd target/lib && ar rcs libdrivelog.a $(c_crates:=.o)
+lib: $(archive)
 
-tool: lib
-	mkdir -p target/bin
-	gcc -std=c11 -O2 -Wall -Wextra -Werror -Iinclude -Idriver -o target/bin/drivelog cli/drivelog.c driver/driver.c target/lib/libdrivelog.a
+# tools/archive says how. Says crate by crate how far the proofs are; what the checks say is shown only if one fails.
+$(archive): $(c_sources) crates.txt tools/rt
+	@mkdir -p target
+	@tools/progress target/lib.log $(c_crates) -- tools/archive $(c_crates)
+
+tool: $(tool)
+
+$(tool): $(cli_c) $(cli_h) $(archive)
+	@mkdir -p target/bin
+	gcc -std=c11 -O2 -Wall -Wextra -Werror -Iinclude -Idriver -o $@ $(cli_c) $(archive)
 
 prove:
 	tools/rt prove
@@ -49,25 +66,26 @@ prove:
 test:
 	tests/gate
 
-programs:
-	tools/rt check replay loglist
+reference:
 	cd reference && cargo build --release --offline --quiet
 
-compare: programs
+programs: reference
+	tools/rt check replay loglist
+
+compare: compare-calls compare-c compare-why compare-load
+
+compare-calls: programs
 	$(reference) compare target/bin/replay target/bin/loglist $(SEED) $(SCRIPTS)
 
-calls: lib
-	cd reference && cargo build --release --offline --quiet
+compare-c: lib reference
 	tests/c/run $(SEED) $(SCRIPTS)
 
-why:
+compare-why: reference
 	tools/rt check logwhy
-	cd reference && cargo build --release --offline --quiet
 	$(reference) why target/bin/logwhy $(SEED) $(SCRIPTS)
 
-loads:
+compare-load: reference
 	tools/rt check logload loglist
-	cd reference && cargo build --release --offline --quiet
 	$(reference) load target/bin/logload target/bin/loglist $(SEED) $(SCRIPTS)
 
 crash: programs
@@ -80,7 +98,6 @@ speed: programs
 	$(reference) time target/bin/loglist reference/target/release/plain_loglist
 
 # Each case by turns, as `make lib bench ROUNDS=101`. Where libpmemlog or the archive of `make lib` is not there, a line says so.
-ROUNDS ?= 31
 bench: programs bench-c
 	tools/rt check bench
 	cd reference && cargo build --profile plain --offline --quiet --bin plain_bench
@@ -88,15 +105,15 @@ bench: programs bench-c
 	  --calls target/bench/calls --append target/bench/append --append-pmem target/bench/append-pmem --rounds $(ROUNDS)
 
 append_c = -std=c11 -O2 -Wall -Wextra -Iinclude -Idriver
-append_from = tests/bench/append.c driver/driver.c target/lib/libdrivelog.a
+append_from = tests/bench/append.c driver/driver.c $(archive)
 bench-c:
 	mkdir -p target/bench
 	gcc -O2 -Wall -Wextra -o target/bench/crc tests/bench/crc.c -lz
 	rm -f target/bench/calls target/bench/append target/bench/append-pmem target/bench/pmemlog
-	if [ -e target/lib/libdrivelog.a ]; then \
-	  gcc -O2 -Wall -Wextra -Iinclude -o target/bench/calls tests/bench/calls.c target/lib/libdrivelog.a -lz && \
+	if [ -e $(archive) ]; then \
+	  gcc -O2 -Wall -Wextra -Iinclude -o target/bench/calls tests/bench/calls.c $(archive) -lz && \
 	  gcc $(append_c) -o target/bench/append $(append_from) -lz; fi
-	if [ -e target/lib/libdrivelog.a ] && pkg-config --exists libpmem; then \
+	if [ -e $(archive) ] && pkg-config --exists libpmem; then \
 	  gcc $(append_c) -DDRIVER_PMEM -o target/bench/append-pmem $(append_from) -lz $$(pkg-config --cflags --libs libpmem); fi
 	if pkg-config --exists libpmemlog; then \
 	  gcc -O2 -Wall -Wextra -o target/bench/pmemlog tests/bench/pmemlog.c $$(pkg-config --cflags --libs libpmemlog); fi

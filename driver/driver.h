@@ -30,21 +30,33 @@ extern "C" {
 struct driver_module {
     const uint64_t *words; /* the module's words, to be read; only driver_carry alters them */
     size_t count;          /* how many */
-    int file;              /* locked as long as the module is open */
+    int file;              /* locked as long as the module is open; never a standard stream's descriptor, 0 to 2 */
     int flushes_lines;     /* libpmem only: cache lines are flushed, and no msync is needed */
 };
 
 struct driver_module *driver_open(const char *path);
 /*
-     Opens the module in the file `path`, for one process alone. Nothing is created or altered.
+     Opens the module in the file `path`, for one process alone. Nothing is created and no word is altered. Parts of the file that have
+   no room on the disk yet (holes) get it, so that no store meets a full disk.
 
-     Returns the module, or null with errno: EWOULDBLOCK if another process has it open, EINVAL if the file is empty or not whole words,
-   or what the system says.
+     Returns the module, or null with errno: EWOULDBLOCK if another process has it open, EISDIR or ENODEV if it is a directory or another
+   thing that is not a regular file (a FIFO or a device is not opened), EINVAL if the file is empty or not whole words, ENOSPC if the
+   disk has no room for its holes, or what the system says.
+*/
+
+struct driver_module *driver_make(const char *path, size_t words, const uint64_t *ops, size_t count);
+/*
+     Makes the file, of so many words that are all 0, carries `count` ops out on it, and opens it. The file gets its name when all of
+   that is safe: a process that fails or is killed meanwhile leaves nothing under the name `path`. (One that is killed may leave a file
+   .drivelog-PROCESS-NUMBER in the directory, which is of no use.) A file that is there already is not touched.
+
+     Returns the module, or null with errno: EEXIST if something has that name already, or what the system says. After an error nothing
+   is left.
 */
 
 struct driver_module *driver_create(const char *path, size_t words);
 /*
-     Makes the file, of so many words that are all 0, and opens it. A file that is there already is not touched (EEXIST).
+     The same with no ops.
 */
 
 int driver_carry(struct driver_module *module, const uint64_t *ops, size_t count);
@@ -52,13 +64,26 @@ int driver_carry(struct driver_module *module, const uint64_t *ops, size_t count
      Carries `count` ops out, in turn. All of them are looked at first: if one is neither a store to a word of the module nor a flush of
    one or more of its words, none is carried out.
 
-     Returns 0, or -1 with errno. Behind EINVAL nothing was done. Behind any other error a flush failed, and the words it was for may or
+     Returns 0, or -1 with errno. After EINVAL nothing was done. After any other error a flush failed, and the words it was for may or
    may not be safe: make no further call, close the module, and recover from what it holds.
+
+     A file that another program cuts short while it is open ends the process with SIGBUS, as every mapped file does, unless the program
+   catches it, as cli/write.c does.
+*/
+
+int driver_check(const struct driver_module *module, const char *path);
+/*
+     Whether `path` still names the module's file, and the file still has its size. A program that asks after driver_carry and before it
+   says that a record is durable does not say so of a file that nobody finds again.
+
+     Returns 0, or -1 with errno: ESTALE if the name is gone or is another file's, EINVAL if the size is another, or what the system
+   says.
 */
 
 void driver_close(struct driver_module *module);
 /*
-     Gives the module back. It flushes nothing: what was stored and not flushed may still be lost.
+     Gives the module back; null is no module, and nothing is done. It flushes nothing: what was stored and not flushed may still be
+   lost.
 */
 
 #ifdef __cplusplus

@@ -5,7 +5,7 @@
  * which test a damaged record fails. Records that the drive has released are not listed. What the bytes mean is in docs/FORMAT.md. Link
  * with target/lib/libdrivelog.a, which `make lib` writes.
  *
- * Every call answers for every input, as document 01, slips 1, 4 and 8 of document 02 and crates/query/specs define it; that is proved.
+ * Every call answers for every input, as its definition in crates/ says (docs/PROOF.md has the map); that is proved.
  * There is no set-up, no handle and nothing to free. A call keeps nothing, allocates nothing and writes nowhere but to the output or the
  * rows, so calls may run in several threads at once as long as nobody writes the image meanwhile.
  *
@@ -17,7 +17,7 @@
  * drivelog_list the rows of 257 records, 8 KB, and less than 4 KB more.
  *
  * Time: every call but drivelog_payload_at tests the superline, then reads the whole log and computes the check of every record,
- * whatever it is asked; a payload comes on top of that. On a full image of the largest size a call takes about 30 microseconds
+ * whatever it is asked; a payload is copied after that. On a full image of the largest size a call takes about 30 microseconds
  * (docs/SPEED.md), so that to ask one record at a time, count and then kind, LSN and payload of 64 records, takes 193 calls and about
  * 6 milliseconds. To go through all records, ask drivelog_list once, and drivelog_payload_at for the payloads that matter.
  */
@@ -32,11 +32,15 @@
 extern "C" {
 #endif
 
+/* The version of this header and of the archive that is built with it. */
+#define DRIVELOG_VERSION "0.8.0"
+enum drivelog_version { DRIVELOG_VERSION_MAJOR = 0, DRIVELOG_VERSION_MINOR = 8, DRIVELOG_VERSION_PATCH = 0 };
+
 /* Why a call declines. A call returns the number with a minus sign, as -DRIVELOG_DAMAGED. The tests run in this order, and the
  * first that fails decides; while the log is read, DRIVELOG_TOO_MANY is tested before DRIVELOG_DAMAGED at each record. */
 enum drivelog_refusal {
     DRIVELOG_IMAGE_SIZE = 1,      /* the image has not 40 to 8,192 words (320 to 65,536 bytes, a multiple of 8), or not the state's size */
-    DRIVELOG_UNSOUND = 2,         /* the state, or the cursor, is none that a call left, or has not its count of words */
+    DRIVELOG_UNSOUND = 2,         /* the state or the cursor is not sound, or has not its count of words */
     DRIVELOG_ARGUMENT = 3,        /* a kind, length, position or frequency is out of its range */
     DRIVELOG_SUPERLINE = 4,       /* the words that say where the log begins are wrong: no log, or one of another size */
     DRIVELOG_NOT_LIVE = 5,        /* no live record has this LSN */
@@ -47,16 +51,52 @@ enum drivelog_refusal {
     DRIVELOG_NO_ROOM = 10,        /* the log has no room for the record */
     DRIVELOG_UNFINISHED = 11,     /* a record is still open (force), or not committed (release all); detail: its LSN */
     DRIVELOG_TOO_MANY = 13,       /* more than 256 records before the end; detail: the LSN of the first too many */
-    DRIVELOG_DAMAGED = 12,        /* a record is damaged; the whole list is refused, also what stands before the damage; detail: its LSN */
+    DRIVELOG_DAMAGED = 12,        /* a record is damaged; the whole list is refused, also what is before the damage; detail: its LSN */
     DRIVELOG_NO_SUCH_RECORD = 16, /* index is not below the number of listed records */
     DRIVELOG_OUTPUT_SHORT = 14,   /* the output, the rows, the reply, the cursor or the record have too little room */
     DRIVELOG_OPS_SHORT = 15       /* the op buffer is too short; detail: the words needed */
 };
 
+static inline const char *drivelog_refusal_text(int64_t number)
+/*
+     A refusal in words, without its detail. `number` is what a call returned, -12, or the number itself, 12.
+
+     Returns a text that is always there; of a number that is no refusal it says so.
+
+     Example:
+
+         if (count < 0)
+             fprintf(stderr, "refused %d: %s\n", (int)-count, drivelog_refusal_text(count));
+*/
+{
+    switch (number < 0 ? 0 - (uint64_t)number : (uint64_t)number) {
+    case DRIVELOG_IMAGE_SIZE: return "not the size of an image";
+    case DRIVELOG_UNSOUND: return "the state or the cursor is not sound";
+    case DRIVELOG_ARGUMENT: return "a number is out of its range";
+    case DRIVELOG_SUPERLINE: return "no log begins here";
+    case DRIVELOG_NOT_LIVE: return "no live record has this LSN";
+    case DRIVELOG_WRONG_STAGE: return "the record is not in the stage for this call";
+    case DRIVELOG_BEYOND_LENGTH: return "more bytes than the record has";
+    case DRIVELOG_NUMBERS_SPENT: return "no LSN or no epoch is left";
+    case DRIVELOG_TABLE_FULL: return "256 records are live";
+    case DRIVELOG_NO_ROOM: return "no room for this record";
+    case DRIVELOG_UNFINISHED: return "a record is not complete or not committed";
+    case DRIVELOG_DAMAGED: return "a record is damaged";
+    case DRIVELOG_TOO_MANY: return "too many records";
+    case DRIVELOG_OUTPUT_SHORT: return "too little room for the answer";
+    case DRIVELOG_OPS_SHORT: return "the op buffer is too short";
+    case DRIVELOG_NO_SUCH_RECORD: return "no such record";
+    default: return "no refusal of this version";
+    }
+}
+
 enum drivelog_limit {
-    DRIVELOG_MAX_IMAGE = 65536, /* bytes of the largest image */
-    DRIVELOG_MAX_RECORDS = 256, /* records that a log holds at most */
-    DRIVELOG_MAX_PAYLOAD = 1024 /* bytes of the longest payload: an output of this size is always enough */
+    DRIVELOG_MIN_IMAGE_WORDS = 40,
+    DRIVELOG_MAX_IMAGE_WORDS = 8192,
+    DRIVELOG_MAX_IMAGE = 8 * DRIVELOG_MAX_IMAGE_WORDS, /* bytes of the largest image */
+    DRIVELOG_MAX_RECORDS = 256,                        /* records that a log holds at most */
+    DRIVELOG_MAX_KIND = 65535,                         /* kinds are 1 to this */
+    DRIVELOG_MAX_PAYLOAD = 1024                        /* bytes of the longest payload: an output of this size is always enough */
 };
 
 int64_t drivelog_count(const uint8_t *image, size_t bytes);
@@ -75,8 +115,8 @@ int64_t drivelog_count(const uint8_t *image, size_t bytes);
 
 int64_t drivelog_damage(const uint8_t *image, size_t bytes);
 /*
-     Why drivelog_count returns -DRIVELOG_DAMAGED: the first test that the damaged record fails, so that a bad cell can be told from
-   a bad copy. The tests of a record run in the order of the enum below.
+     Why drivelog_count returns -DRIVELOG_DAMAGED: the first test that the damaged record fails, so that a bad cell can be
+   distinguished from a bad copy. The tests of a record run in the order of the enum below.
 
      Returns the number of the test, or 0 if the log reaches its end, or -DRIVELOG_IMAGE_SIZE, -DRIVELOG_SUPERLINE or
    -DRIVELOG_TOO_MANY.
@@ -123,9 +163,9 @@ int64_t drivelog_lsn(const uint8_t *image, size_t bytes, uint64_t index);
 
 int64_t drivelog_epoch(const uint8_t *image, size_t bytes, uint64_t index);
 /*
-     The epoch of one listed record, 0 to 4,294,967,295 (2^32 - 1), which tells between which restarts of the drive it was written: a
+     The epoch of one listed record, 0 to 4,294,967,295 (2^32 - 1), which says between which restarts of the drive it was written: a
    formatted module is in epoch 1, and each restart goes on in a later one. Epochs never fall with the index. 0 is for a record that was
-   stored before there were epochs, or that was loaded from a listing; such records stand before all others.
+   stored before there were epochs, or that was loaded from a listing; such records are before all others.
 
      Returns the epoch, or what drivelog_kind returns where that is a refusal.
 
@@ -137,8 +177,8 @@ int64_t drivelog_epoch(const uint8_t *image, size_t bytes, uint64_t index);
 
 int64_t drivelog_payload(const uint8_t *image, size_t bytes, uint64_t index, uint8_t *output, size_t room);
 /*
-     Copies the payload of one listed record to the front of the output, which has room for `room` bytes. What stands in the output
-   behind the payload stays as it is.
+     Copies the payload of one listed record to the front of the output, which has room for `room` bytes. The bytes of the output
+   after the payload stay as they are.
 
      Returns the payload's length, 0 to 1,024, or what drivelog_kind returns where that is a refusal, or -DRIVELOG_OUTPUT_SHORT if
    the payload is longer than room. A call that declines leaves all of the output as it is. There is no call for the length alone:
@@ -154,64 +194,72 @@ int64_t drivelog_payload(const uint8_t *image, size_t bytes, uint64_t index, uin
 
 int64_t drivelog_list(const uint8_t *image, size_t bytes, uint64_t *rows, size_t room);
 /*
-     Writes a row of four words for each listed record, oldest first: its LSN, its kind, its length, and its position for
-   drivelog_payload_at. `room` is the number of words; 4 * DRIVELOG_MAX_RECORDS are always enough. The words behind the rows stay as
-   they are.
+     Writes a row of four words for each listed record, oldest first, in the order of the enum below. `room` is the number of words;
+   DRIVELOG_ROW_WORDS * DRIVELOG_MAX_RECORDS are always enough. The words after the rows stay as they are.
 
      Returns the number of listed records, as drivelog_count does, or -DRIVELOG_OUTPUT_SHORT if room is below four times that number.
    A call that declines leaves all of the rows as they are.
 
      Example:
 
-         uint64_t rows[4 * DRIVELOG_MAX_RECORDS];
+         uint64_t rows[DRIVELOG_ROW_WORDS * DRIVELOG_MAX_RECORDS];
          int64_t count = drivelog_list(image, bytes, rows, sizeof rows / sizeof rows[0]);
-         for (int64_t i = 0; i < count; i++)
-             printf("%llu: kind %llu\n", (unsigned long long)rows[4 * i], (unsigned long long)rows[4 * i + 1]);
+         for (int64_t i = 0; i < count; i++) {
+             const uint64_t *row = rows + DRIVELOG_ROW_WORDS * i;
+             printf("%llu: kind %llu\n", (unsigned long long)row[DRIVELOG_ROW_LSN], (unsigned long long)row[DRIVELOG_ROW_KIND]);
+         }
 */
+enum drivelog_row {
+    DRIVELOG_ROW_LSN = 0,
+    DRIVELOG_ROW_KIND = 1,
+    DRIVELOG_ROW_LENGTH = 2, /* bytes of its payload */
+    DRIVELOG_ROW_POS = 3,    /* its ring position, for drivelog_payload_at */
+    DRIVELOG_ROW_WORDS = 4
+};
 
 int64_t drivelog_payload_at(const uint8_t *image, size_t bytes, uint64_t pos, uint64_t length, uint8_t *output, size_t room);
 /*
      Copies the payload of the record of `length` bytes at `pos` to the front of the output, which has room for `room` bytes: for a
-   row that drivelog_list wrote of the same bytes. What stands in the output behind the payload stays as it is. The call reads no log
-   and tests no record: of a position that is no record's it copies what stands there.
+   row that drivelog_list wrote of the same bytes. The bytes of the output after the payload stay as they are. The call reads no log
+   and tests no record: of a position that is no record's it copies what is there.
 
      Returns the length, or -DRIVELOG_IMAGE_SIZE, -DRIVELOG_ARGUMENT, or -DRIVELOG_OUTPUT_SHORT if length is more than room. A call
    that declines leaves all of the output as it is.
 
-     Example, with the rows from above:
+     Example, with a row from above:
 
          uint8_t payload[DRIVELOG_MAX_PAYLOAD];
-         int64_t length = drivelog_payload_at(image, bytes, rows[4 * i + 3], rows[4 * i + 2], payload, sizeof payload);
+         int64_t length = drivelog_payload_at(image, bytes, row[DRIVELOG_ROW_POS], row[DRIVELOG_ROW_LENGTH], payload, sizeof payload);
 */
 
 /* The log itself -----------------------------------------------------------------------------------------------------------------
  *
- * The calls below write the log and read it record by record, as document 01 defines them (README.md has an example with a power
- * failure). They do not touch the memory module: a call stores into the working image and fills the op buffer, three words an op,
- * (1, word, value) for a store and (2, first word, count) for a flush. The program then carries the ops out on the module, in turn, all
- * of them before the next call:
+ * The calls below write the log and read it record by record (examples/c/write.c is a whole program). They do not touch the memory
+ * module: a call stores into the working image and fills the op buffer, three words an op, as enum drivelog_op says. The program then
+ * carries the ops out on the module, in turn, all of them before the next call (driver/driver.h does that for a module in a file):
  *
- *     for (uint64_t i = 0; i < reply[DRIVELOG_REPLY_OPS]; i++)
- *         if (ops[3 * i] == 1)
- *             store(ops[3 * i + 1], ops[3 * i + 2]);
+ *     for (const uint64_t *op = ops; op < ops + DRIVELOG_OP_WORDS * reply[DRIVELOG_REPLY_OPS]; op += DRIVELOG_OP_WORDS)
+ *         if (op[0] == DRIVELOG_OP_STORE)
+ *             store(op[1], op[2]);
  *         else
- *             flush(ops[3 * i + 1], ops[3 * i + 2]);
+ *             flush(op[1], op[2]);
  *
  * State: DRIVELOG_STATE_WORDS words that the program keeps and lends to each call. drivelog_format or drivelog_recover fills them, and
- * nobody else need know what they hold. Words that no call left are no state: the calls decline them with DRIVELOG_UNSOUND, whatever
- * they hold.
+ * nobody else need know what they hold. Words that are not sound are declined with DRIVELOG_UNSOUND: numbers out of their range, or
+ * that do not fit one another. That is no check of the words: a sound state made by hand is accepted, and a flipped bit of the state in
+ * memory is not always caught (of the 33,280 single-bit changes of the state of a log of five records, drivelog_reserve grants 127).
  *
- * Reply: four words or more that each call writes, in the order of the enum below, whether it is granted or declined. What stands
- * behind them stays.
+ * Reply: four words or more that each call writes, in the order of the enum below, whether it is granted or declined. The words after
+ * them stay as they are.
  *
  * A call returns 0 or more, or minus the number of a refusal. A call that declines alters no word that it is lent but the reply's. A
  * reply of fewer than four words is declined before all else with DRIVELOG_OUTPUT_SHORT, and then nothing is altered.
  *
- * Every call answers for every input, as crates/ccalls/specs and creads/specs define it over crates/journal/specs; that is proved, and
- * so is what a crash leaves of a log that is written so (docs/PROOF.md). Counts are of words, not bytes; an image's words are
- * little-endian in bytes.
+ * Every call answers for every input, as its definition in crates/ says (docs/PROOF.md has the map); that is proved, and so is what a
+ * crash leaves of a log that these calls format and write, each lent the state's words and the image that the one before left, and after
+ * a crash any words. Counts are of words, not bytes; an image's words are little-endian in bytes.
  *
- * Memory: each pointer is to as many words as the count behind it says, `bytes` to `count` bytes. They need the alignment of their
+ * Memory: each pointer is to as many words as the count after it says, `bytes` to `count` bytes. They need the alignment of their
  * type. Where the count is 0 the pointer is not followed and may be null. What is written may overlap nothing else that is lent to
  * the same call. A call keeps nothing and allocates nothing, so calls with different words may run in several threads at once.
  *
@@ -219,9 +267,16 @@ int64_t drivelog_payload_at(const uint8_t *image, size_t bytes, uint64_t pos, ui
  * 1,024.
  *
  * Time: every call tests the whole state, so that it grows with the live records. An append, that is reserve, copy, complete, force at
- * every eighth record and a release, takes about 0.5 microseconds with no live record and 2 to 3 with 250, beside the CRC-32 of a longer
+ * every eighth record and a release, takes about 0.5 microseconds with no live record and 2 to 3 with 250, plus the CRC-32 of a longer
  * payload and what carrying the ops out takes (docs/SPEED.md).
  */
+
+/* An op has three words: its code, a word number, and a value or a count. */
+enum drivelog_op {
+    DRIVELOG_OP_STORE = 1, /* the word gets the value */
+    DRIVELOG_OP_FLUSH = 2, /* so many words, from that word on, keep their newest value whatever happens */
+    DRIVELOG_OP_WORDS = 3
+};
 
 enum drivelog_reply {
     DRIVELOG_REPLY_NUMBER = 0, /* the refusal's number, 0 if granted */
@@ -236,8 +291,25 @@ enum drivelog_words {
     DRIVELOG_REPLY_WORDS = 4,
     DRIVELOG_CURSOR_WORDS = 6,
     DRIVELOG_RECORD_WORDS = 6,
-    DRIVELOG_MAX_OPS = 514,                   /* ops that one call puts at most: a force of 256 records that goes round */
+    DRIVELOG_MAX_OPS = 514, /* ops that one call puts at most: a force of 256 records that goes round the ring's end */
     DRIVELOG_OPS_WORDS = 3 * DRIVELOG_MAX_OPS /* words of an op buffer that is always enough */
+};
+
+/* The words of a cursor, which drivelog_open and drivelog_next write. */
+enum drivelog_cursor {
+    DRIVELOG_CURSOR_POS = 0,            /* the ring position of the next record */
+    DRIVELOG_CURSOR_LSN = 1,            /* the LSN that it has to have; after open, that of the head */
+    DRIVELOG_CURSOR_USED = 2,           /* words of the records before it */
+    DRIVELOG_CURSOR_COUNT = 3,          /* how many those are */
+    DRIVELOG_CURSOR_LAST_EPOCH = 4,     /* the epoch of the last of them, 0 at open */
+    DRIVELOG_CURSOR_SUPERLINE_EPOCH = 5 /* the log's */
+};
+
+/* How far a record has got. */
+enum drivelog_mark {
+    DRIVELOG_MARK_NONE = 0, /* not committed: for a reader the log ends here, so drivelog_next gives no such record */
+    DRIVELOG_MARK_COMMITTED = 1,
+    DRIVELOG_MARK_RELEASED = 2
 };
 
 /* The words of a record that drivelog_next writes. */
@@ -246,7 +318,7 @@ enum drivelog_record {
     DRIVELOG_RECORD_LSN = 1,
     DRIVELOG_RECORD_KIND = 2,
     DRIVELOG_RECORD_LENGTH = 3, /* bytes of its payload */
-    DRIVELOG_RECORD_MARK = 4,   /* 1 committed, 2 released */
+    DRIVELOG_RECORD_MARK = 4,   /* DRIVELOG_MARK_COMMITTED or DRIVELOG_MARK_RELEASED */
     DRIVELOG_RECORD_EPOCH = 5   /* of the state that completed it, or 0 */
 };
 
@@ -262,7 +334,7 @@ int64_t drivelog_format(uint64_t *state, size_t state_words, uint64_t *image, si
 
      Returns 0, or -DRIVELOG_IMAGE_SIZE, -DRIVELOG_UNSOUND (state_words is not DRIVELOG_STATE_WORDS) or -DRIVELOG_OPS_SHORT.
 
-     Example, which is kept up below:
+     Example, which the ones below go on with:
 
          uint64_t state[DRIVELOG_STATE_WORDS], image[2048], ops[DRIVELOG_OPS_WORDS], reply[DRIVELOG_REPLY_WORDS];
          int64_t done = drivelog_format(state, DRIVELOG_STATE_WORDS, image, 2048, ops, DRIVELOG_OPS_WORDS, reply, 4);
@@ -272,8 +344,8 @@ int64_t drivelog_format(uint64_t *state, size_t state_words, uint64_t *image, si
 int64_t drivelog_reserve(uint64_t *state, size_t state_words, uint64_t *image, size_t image_words, uint64_t *ops, size_t ops_words,
                          uint64_t kind, uint64_t length, uint64_t *reply, size_t reply_words);
 /*
-     Room for a record of a kind, 1 to 65,535, and a length, 0 to 1,024 bytes, behind the last one. The record is open, its payload
-   zeros. One store for each word of the record and one behind it, no flush.
+     Room for a record of a kind, 1 to 65,535, and a length, 0 to 1,024 bytes, after the last one. The record is open, its payload
+   zeros. One store for each word of the record and one for the word after it, no flush.
 
      Returns its LSN, 1 or more, or -DRIVELOG_IMAGE_SIZE, -DRIVELOG_UNSOUND, -DRIVELOG_ARGUMENT, -DRIVELOG_NUMBERS_SPENT,
    -DRIVELOG_TABLE_FULL, -DRIVELOG_NO_ROOM or -DRIVELOG_OPS_SHORT. The second value is its ring position.
@@ -315,7 +387,7 @@ int64_t drivelog_force(uint64_t *state, size_t state_words, uint64_t *image, siz
                        uint64_t lsn, uint64_t frequency, uint64_t *reply, size_t reply_words);
 /*
      Makes every record up to an LSN durable: once the ops are carried out they survive a power failure. With a frequency above 1 the
-   force is deferred, with no ops, as long as no multiple of it lies among the LSNs not yet committed up to this one.
+   force is deferred, with no ops, as long as no multiple of it is among the LSNs not yet committed up to this one.
 
      Returns 1 if they are durable, 0 if that is deferred, or -DRIVELOG_IMAGE_SIZE, -DRIVELOG_UNSOUND, -DRIVELOG_ARGUMENT (frequency 0),
    -DRIVELOG_NOT_LIVE, -DRIVELOG_UNFINISHED (the detail is the lowest LSN that is still open) or -DRIVELOG_OPS_SHORT.
@@ -370,7 +442,7 @@ int64_t drivelog_recover(uint64_t *state, size_t state_words, uint64_t *image, s
 int64_t drivelog_open(const uint64_t *image, size_t image_words, uint64_t *cursor, size_t cursor_words, uint64_t *reply,
                       size_t reply_words);
 /*
-     A cursor at the oldest record of an image, in the first DRIVELOG_CURSOR_WORDS words lent for it. What stands behind them stays.
+     A cursor at the oldest record of an image, in the first DRIVELOG_CURSOR_WORDS words lent for it. The words after them stay.
 
      Returns 0, or -DRIVELOG_OUTPUT_SHORT (fewer words lent for the cursor), -DRIVELOG_IMAGE_SIZE or -DRIVELOG_SUPERLINE.
 
@@ -383,11 +455,11 @@ int64_t drivelog_open(const uint64_t *image, size_t image_words, uint64_t *curso
 int64_t drivelog_next(const uint64_t *image, size_t image_words, uint64_t *cursor, size_t cursor_words, uint64_t *record,
                       size_t record_words, uint64_t *reply, size_t reply_words);
 /*
-     The record at a cursor, in the first DRIVELOG_RECORD_WORDS words lent for it, and the cursor moved behind it. Released records are
-   given too: their mark is 2.
+     The record at a cursor, in the first DRIVELOG_RECORD_WORDS words lent for it, and the cursor moved past it. Released records are
+   given too, with their mark.
 
      Returns 1 with a record; 0 at the end, whose LSN is the second value, and then cursor and record stay; or -DRIVELOG_OUTPUT_SHORT
-   (fewer words lent for cursor or record), -DRIVELOG_IMAGE_SIZE, -DRIVELOG_UNSOUND (no cursor that open or next left),
+   (fewer words lent for cursor or record), -DRIVELOG_IMAGE_SIZE, -DRIVELOG_UNSOUND (the cursor is not sound),
    -DRIVELOG_TOO_MANY or -DRIVELOG_DAMAGED, whose second value is the test that the record fails.
 
      Example:
@@ -401,7 +473,7 @@ int64_t drivelog_fetch(const uint64_t *image, size_t image_words, uint64_t pos, 
                        uint64_t *reply, size_t reply_words);
 /*
      Copies the payload of the record of `length` bytes at `pos` to the front of the output, which has room for `room` bytes: for a
-   record that drivelog_next gave of the same image. What stands in the output behind the payload stays as it is.
+   record that drivelog_next gave of the same image. The bytes of the output after the payload stay as they are.
 
      Returns the length, or -DRIVELOG_IMAGE_SIZE, -DRIVELOG_ARGUMENT, or -DRIVELOG_OUTPUT_SHORT if length is more than room.
 

@@ -3,7 +3,7 @@
  * Kinds that it takes, the payload being decimal digits, two to a byte, as the drive of `make demo` writes them:
  *     kind 1, bearing hours: from 20000 hours on in the newest such record, one set of bearings
  *     kind 3, a part exchanged: one part with that number, to fill the store again
- * Other kinds are passed over. Where an image is refused nothing is ordered, not even for what stands before the damage: the
+ * Other kinds are passed over. Where an image is refused nothing is ordered, not even for what is before the damage: the
  * number and what it means go to standard error, status 1. Status 2: no file, or a record without digits, which is named there.
  *
  *     make lib
@@ -27,18 +27,9 @@ static int status = 0;
 /* What a call answered; a refusal ends the program. */
 static int64_t answered(int64_t answer)
 {
-    const char *means = "?";
     if (answer >= 0)
         return answer;
-    switch (-answer) {
-    case DRIVELOG_IMAGE_SIZE: means = "not the size of an image"; break;
-    case DRIVELOG_SUPERLINE: means = "no log begins here"; break;
-    case DRIVELOG_DAMAGED: means = "a record is damaged"; break;
-    case DRIVELOG_TOO_MANY: means = "too many records"; break;
-    case DRIVELOG_NO_SUCH_RECORD: means = "no such record"; break;
-    case DRIVELOG_OUTPUT_SHORT: means = "a payload longer than its buffer"; break;
-    }
-    fprintf(stderr, "orders: refused %d: %s\n", (int)-answer, means);
+    fprintf(stderr, "orders: refused %d: %s\n", (int)-answer, drivelog_refusal_text(answer));
     exit(1);
 }
 

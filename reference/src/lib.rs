@@ -34,7 +34,7 @@ pub mod c_calls;
 pub mod compare;
 pub mod cover;
 pub mod crash;
-pub mod demo;
+pub mod example;
 pub mod gen;
 pub mod images;
 pub mod load;

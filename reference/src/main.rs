@@ -5,7 +5,7 @@ use reference::c_calls::c_calls;
 use reference::compare::{compare, compare_samples};
 use reference::cover::Coverage;
 use reference::crash::{crash_bench, Program};
-use reference::demo::demo;
+use reference::example::{example, listing};
 use reference::gen;
 use reference::layout::OLD_TABLE_SIZE;
 use reference::load::compare_load;
@@ -24,7 +24,7 @@ use std::process::ExitCode;
 use std::time::Duration;
 
 const USAGE: &str = "\
-usage: reference demo                    tell the story that the program demo tells
+usage: reference example                 print the listing that the program example prints
        reference loglist                 list the image on standard input
        reference replay [--shortcut K]   run the script on standard input
        reference stored-script           write the stored script of the program replay
@@ -68,8 +68,8 @@ fn main() -> ExitCode {
 fn run(args: &[&str]) -> io::Result<ExitCode> {
     let mut stdout = BufWriter::with_capacity(1 << 16, io::stdout().lock());
     match args {
-        ["demo"] => match demo() {
-            Ok(told) => stdout.write_all(told.text.as_bytes())?,
+        ["example"] => match example() {
+            Ok(image) => stdout.write_all(listing(&image).as_bytes())?,
             Err(refusal) => return Err(invalid(format!("a call is refused: {refusal:?}"))),
         },
         ["loglist"] => {

@@ -1,7 +1,7 @@
 //! The worked image of docs/FORMAT.md: every word, number and line of it is what the reference computes.
 
 use reference::calls::walk;
-use reference::demo::demo;
+use reference::example::example;
 use reference::layout::{crc32, record_size, CheckWord, Header, FIRST_RING_WORD, HEADER_WORDS};
 use reference::loglist::loglist;
 use std::fs;
@@ -18,7 +18,7 @@ struct Row {
 }
 
 fn image() -> Vec<u64> {
-    demo().expect("no call is refused").image
+    example().expect("no call is refused")
 }
 
 /// The doc from the worked image on.

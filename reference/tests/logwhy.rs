@@ -1,13 +1,13 @@
 //! Why an LSN is listed or not: each answer on the worked image of docs/FORMAT.md, changed for it, and the inputs that are refused.
 
-use reference::demo::demo;
+use reference::example::example;
 use reference::logwhy::{logwhy, reasons_of};
 use reference::samples::samples;
 use std::collections::BTreeSet;
 
 /// 64 words, records 1 to 4 from word 24 on, the end at LSN 5.
 fn worked_image() -> Vec<u64> {
-    demo().expect("no call is refused").image
+    example().expect("no call is refused")
 }
 
 fn why(image: &[u64], lsn: u64) -> String {

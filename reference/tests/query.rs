@@ -2,7 +2,7 @@
 //! the documents name a number.
 
 use reference::c_calls::{all_images, ask};
-use reference::demo::demo;
+use reference::example::example;
 use reference::images::{self, SORTS};
 use reference::query::{count, damage, epoch, kind, lsn, payload};
 use reference::samples::{full_image, samples};
@@ -46,7 +46,7 @@ const WORKED: [(i64, i64, &[u8]); 4] = [
 ];
 
 fn worked_image() -> Vec<u8> {
-    let image = demo().expect("no call is refused").image;
+    let image = example().expect("no call is refused");
     image.iter().flat_map(|word| word.to_le_bytes()).collect()
 }
 

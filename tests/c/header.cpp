@@ -1,6 +1,29 @@
-// The header's declarations hold in C++ too: each call is linked under its plain name, and answers for an empty image.
+// The header's declarations hold in C++ too: each call is linked under its plain name, and answers for an empty image. Each refusal has a
+// text of its own, by its number or by what a call returns, and the version is the one that its parts make.
 
 #include "drivelog.h"
+
+#include <cstdint>
+#include <set>
+#include <string>
+
+static bool texts()
+{
+    const std::string none = drivelog_refusal_text(0);
+    std::set<std::string> seen;
+    for (int64_t number = 1; number <= 16; number++) {
+        const std::string text = drivelog_refusal_text(number);
+        if (text == none || text != drivelog_refusal_text(-number) || !seen.insert(text).second)
+            return false;
+    }
+    return none == drivelog_refusal_text(17) && none == drivelog_refusal_text(INT64_MIN) && none == drivelog_refusal_text(INT64_MAX);
+}
+
+static bool version()
+{
+    const std::string major = std::to_string(DRIVELOG_VERSION_MAJOR), minor = std::to_string(DRIVELOG_VERSION_MINOR);
+    return major + "." + minor + "." + std::to_string(DRIVELOG_VERSION_PATCH) == DRIVELOG_VERSION;
+}
 
 int main()
 {
@@ -9,5 +32,5 @@ int main()
     bool all = drivelog_count(0, 0) == refused && drivelog_damage(0, 0) == refused && drivelog_kind(0, 0, 0) == refused && drivelog_lsn(0, 0, 0) == refused
         && drivelog_epoch(0, 0, 0) == refused && drivelog_payload(0, 0, 0, output, sizeof output) == refused && drivelog_list(0, 0, 0, 0) == refused
         && drivelog_payload_at(0, 0, 0, 0, output, sizeof output) == refused;
-    return all ? 0 : 1;
+    return all && texts() && version() ? 0 : 1;
 }

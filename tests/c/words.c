@@ -247,6 +247,108 @@ static void broken_cursors(void)
         }
 }
 
+/* A log of five durable records in 64 words. */
+static void five_records(uint64_t *state, uint64_t *image)
+{
+    uint64_t ops[OPS], reply[4];
+    need(drivelog_format(state, STATE, image, 64, ops, OPS, reply, 4) == 0, "format");
+    for (uint64_t lsn = 1; lsn <= 5; lsn++) {
+        need(drivelog_reserve(state, STATE, image, 64, ops, OPS, 17, BYTES, reply, 4) == (int64_t)lsn, "reserve");
+        need(drivelog_complete(state, STATE, image, 64, ops, OPS, lsn, reply, 4) == 0, "complete");
+    }
+    need(drivelog_force(state, STATE, image, 64, ops, OPS, 5, 1, reply, 4) == 1, "force");
+}
+
+/* How many single-bit changes of a sound state a reserve takes for another sound state. The header says so: soundness is no check. */
+static void flipped_state(void)
+{
+    uint64_t good[STATE], good_image[64] = {0}, state[STATE], image[64], ops[OPS], reply[4];
+    unsigned granted = 0;
+    call_name = "a flipped state";
+    five_records(good, good_image);
+    for (size_t bit = 0; bit < 64 * STATE; bit++) {
+        memcpy(state, good, sizeof state);
+        memcpy(image, good_image, sizeof image);
+        state[bit / 64] ^= 1ull << bit % 64;
+        granted += drivelog_reserve(state, STATE, image, 64, ops, OPS, 1, 0, reply, 4) >= 0;
+    }
+    need(granted == 127, "another number of single-bit changes is granted than the header says");
+}
+
+/* What one bit of an image can do, which README says: a record's mark is not covered by its check. Of all single-bit flips of the log,
+ * five make a shorter list that ends as if it were whole; each is the lowest bit of a mark. */
+static void flipped_image(void)
+{
+    uint64_t state[STATE], image[64] = {0};
+    const uint8_t *bytes = (const uint8_t *)(const void *)image;
+    unsigned shorter = 0;
+    call_name = "a flipped image";
+    five_records(state, image);
+    for (size_t bit = 0; bit < 64 * 64; bit++) {
+        image[bit / 64] ^= 1ull << bit % 64;
+        int64_t count = drivelog_count(bytes, sizeof image);
+        image[bit / 64] ^= 1ull << bit % 64;
+        need(count <= 5, "a longer list");
+        need(count < 0 || count == 5 || bit % 64 == 48, "a bit that is no mark's shortens the list");
+        shorter += count >= 0 && count < 5;
+    }
+    need(shorter == 5, "not five flips shorten the list");
+}
+
+/* The header's constants for the words of ops, cursors, records and rows. */
+static void constants(void)
+{
+    uint64_t ops[OPS], reply[4], c[DRIVELOG_CURSOR_WORDS], f[DRIVELOG_RECORD_WORDS];
+    uint64_t rows[DRIVELOG_ROW_WORDS * DRIVELOG_MAX_RECORDS];
+    struct log log = settled;
+    uint64_t *s = log.state, *w = log.image;
+    call_name = "constants";
+    need(drivelog_release(s, STATE, w, IMAGE, ops, OPS, 2, reply, 4) == 0 && reply[DRIVELOG_REPLY_OPS] == 1, "release");
+    need(ops[0] == DRIVELOG_OP_STORE && ops[2] >> 48 == DRIVELOG_MARK_RELEASED, "the op of a release");
+    need(drivelog_recover(s, STATE, w, IMAGE, ops, OPS, reply, 4) == 0 && reply[DRIVELOG_REPLY_OPS] == 11, "recover");
+    const uint64_t *last = ops + DRIVELOG_OP_WORDS * 10;
+    need(last[0] == DRIVELOG_OP_FLUSH && last[1] == 0 && last[2] == 1, "the last op of a recovery");
+
+    need(drivelog_open(w, IMAGE, c, DRIVELOG_CURSOR_WORDS, reply, 4) == 0, "open");
+    need(c[DRIVELOG_CURSOR_POS] == 0 && c[DRIVELOG_CURSOR_LSN] == 1, "a cursor at the head");
+    need(c[DRIVELOG_CURSOR_USED] == 0 && c[DRIVELOG_CURSOR_COUNT] == 0, "a cursor at the head");
+    need(c[DRIVELOG_CURSOR_LAST_EPOCH] == 0 && c[DRIVELOG_CURSOR_SUPERLINE_EPOCH] == 2, "epochs of a cursor");
+    for (uint64_t lsn = 1; lsn <= 2; lsn++) {
+        uint64_t mark = lsn == 2 ? DRIVELOG_MARK_RELEASED : DRIVELOG_MARK_COMMITTED;
+        need(drivelog_next(w, IMAGE, c, DRIVELOG_CURSOR_WORDS, f, DRIVELOG_RECORD_WORDS, reply, 4) == 1, "next");
+        need(f[DRIVELOG_RECORD_MARK] == mark && f[DRIVELOG_RECORD_LSN] == lsn && f[DRIVELOG_RECORD_EPOCH] == 1, "a record");
+        need(f[DRIVELOG_RECORD_KIND] == 16 + lsn && f[DRIVELOG_RECORD_LENGTH] == BYTES, "a record");
+        need(f[DRIVELOG_RECORD_POS] == 5 * (lsn - 1), "a record's position");
+    }
+    need(c[DRIVELOG_CURSOR_POS] == 10 && c[DRIVELOG_CURSOR_LSN] == 3, "a cursor after two records");
+    need(c[DRIVELOG_CURSOR_USED] == 10 && c[DRIVELOG_CURSOR_COUNT] == 2, "a cursor after two records");
+    need(c[DRIVELOG_CURSOR_LAST_EPOCH] == 1, "the last epoch of a cursor");
+
+    need(drivelog_list((const uint8_t *)(const void *)w, 8 * IMAGE, rows, sizeof rows / 8) == 2, "list");
+    const uint64_t *row = rows + DRIVELOG_ROW_WORDS;
+    need(row[DRIVELOG_ROW_LSN] == 3 && row[DRIVELOG_ROW_KIND] == 19, "a row");
+    need(row[DRIVELOG_ROW_LENGTH] == BYTES && row[DRIVELOG_ROW_POS] == 10, "a row");
+}
+
+/* The header's limits: each number is granted, and the next one is not. */
+static void limits(void)
+{
+    static uint64_t state[STATE], image[DRIVELOG_MAX_IMAGE_WORDS + 1], ops[OPS], reply[4];
+    enum { MIN = DRIVELOG_MIN_IMAGE_WORDS, MAX = DRIVELOG_MAX_IMAGE_WORDS };
+    call_name = "limits";
+    need(drivelog_format(state, STATE, image, MIN - 1, ops, OPS, reply, 4) == -DRIVELOG_IMAGE_SIZE, "an image too small");
+    need(drivelog_format(state, STATE, image, MAX + 1, ops, OPS, reply, 4) == -DRIVELOG_IMAGE_SIZE, "an image too large");
+    need(drivelog_format(state, STATE, image, MIN, ops, OPS, reply, 4) == 0, "the smallest image");
+    need(drivelog_format(state, STATE, image, MAX, ops, OPS, reply, 4) == 0, "the largest image");
+    for (int more = 0; more < 2; more++) {
+        int64_t due = more ? -DRIVELOG_ARGUMENT : 1;
+        int64_t kind = drivelog_reserve(state, STATE, image, MAX, ops, OPS, DRIVELOG_MAX_KIND + more, 0, reply, 4);
+        need(kind == due, "the last kind, or one more");
+        int64_t length = drivelog_reserve(state, STATE, image, MAX, ops, OPS, 1, DRIVELOG_MAX_PAYLOAD + more, reply, 4);
+        need(length == (more ? due : 2), "the longest payload, or one more");
+    }
+}
+
 /* No words or bytes at all. */
 static void nothing_lent(void)
 {
@@ -283,6 +385,10 @@ int main(void)
         broken_states(&settled);
         broken_cursors();
         nothing_lent();
+        constants();
+        limits();
+        flipped_state();
+        flipped_image();
     }
     printf("words: %llu calls answered as they should be\n", (unsigned long long)call_number);
     return 0;

@@ -1,16 +1,34 @@
-/* driver FILE: the driver alone, on a file that it makes and takes away. Ops in turn, ops that it declines, the lock, its errors. Status 1
- * and a line for the first thing that is not as it should be. */
+/* driver FILE: the driver alone, on a file that it makes and takes away. Ops in turn, ops that it declines, the lock, new files, files that
+ * are replaced, its errors. Status 1 and a line for the first thing that is not as it should be. Linked with
+ * --wrap=calloc and --wrap=renameat2, so that the test can do something in the middle of driver_open, and stand for a file system without
+ * that rename. */
 
 #define _DEFAULT_SOURCE
 #include "driver.h"
 
+#include <dirent.h>
 #include <errno.h>
+#include <fcntl.h>
 #include <stdio.h>
 #include <stdlib.h>
 #include <string.h>
+#include <sys/stat.h>
 #include <unistd.h>
 
 static int checks;
+
+/* What is renamed when the driver next asks for memory, which is after it has locked the file. */
+static const char *rename_from, *rename_to;
+
+void *__real_calloc(size_t count, size_t size);
+void *__wrap_calloc(size_t count, size_t size);
+void *__wrap_calloc(size_t count, size_t size)
+{
+    if (rename_from != NULL)
+        rename(rename_from, rename_to);
+    rename_from = NULL;
+    return __real_calloc(count, size);
+}
 
 #define EXPECT(fact) (checks++, (fact) ? (void)0 : fail(__LINE__, #fact))
 
@@ -40,11 +58,137 @@ static uint64_t in_file(const char *path, size_t word)
     return value;
 }
 
+static int no_rename;
+
+int __real_renameat2(int from, const char *old_name, int to, const char *name, unsigned flags);
+int __wrap_renameat2(int from, const char *old_name, int to, const char *name, unsigned flags);
+int __wrap_renameat2(int from, const char *old_name, int to, const char *name, unsigned flags)
+{
+    errno = EINVAL;
+    return no_rename ? -1 : __real_renameat2(from, old_name, to, name, flags);
+}
+
+/* How many files of the folder are left of a driver_make. */
+static int left_over(const char *folder)
+{
+    int count = 0;
+    DIR *all = opendir(folder);
+    for (struct dirent *one; all != NULL && (one = readdir(all)) != NULL;)
+        count += strncmp(one->d_name, ".drivelog-", 10) == 0;
+    closedir(all);
+    return count;
+}
+
+/* A file is made whole or not at all. */
+static void making(const char *path, const char *folder)
+{
+    static const char late[] = "late\n";
+    uint64_t ops[] = {1, 7, 1, 1, 8, 2, 2, 7, 2}, wrong[] = {1, 7, 1, 1, 100, 2};
+    EXPECT(driver_make(path, 100, wrong, 2) == NULL && errno == EINVAL && access(path, F_OK) != 0);
+    struct driver_module *module = driver_make(path, 100, ops, 3);
+    EXPECT(module != NULL && module->count == 100 && module->words[7] == 1 && module->words[8] == 2 && in_file(path, 8) == 2);
+    EXPECT(driver_make(path, 100, ops, 3) == NULL && errno == EEXIST);
+    EXPECT(driver_open(path) == NULL && errno == EWOULDBLOCK);
+    EXPECT(driver_check(module, path) == 0);
+    driver_close(module);
+    EXPECT(left_over(folder) == 0);
+    unlink(path);
+    /* A name that is taken while the file is made stays what it is. */
+    char taken[1000];
+    snprintf(taken, sizeof taken, "%s-taken", path);
+    FILE *file = fopen(taken, "w");
+    EXPECT(file != NULL && fputs(late, file) >= 0 && fclose(file) == 0);
+    rename_from = taken;
+    rename_to = path;
+    EXPECT(driver_make(path, 100, ops, 3) == NULL && errno == EEXIST && rename_from == NULL && left_over(folder) == 0);
+    struct stat about;
+    EXPECT(stat(path, &about) == 0 && about.st_size == sizeof late - 1);
+    unlink(path);
+    EXPECT(driver_create("/nowhere/at/all", 100) == NULL && errno == ENOENT);
+    EXPECT(driver_create("", 100) == NULL && errno == ENOENT);
+    EXPECT(driver_create("/", 100) == NULL && errno == EEXIST);
+}
+
+/* The file is never a standard stream, whatever of them is closed. */
+static void standard_streams(const char *path)
+{
+    int copies[3], high = 1;
+    for (int i = 0; i < 3; i++)
+        copies[i] = fcntl(i, F_DUPFD_CLOEXEC, 10);
+    for (int closed = 1; closed < 8; closed++) {
+        for (int i = 0; i < 3; i++)
+            if (closed >> i & 1)
+                close(i);
+        struct driver_module *made = driver_create(path, 100);
+        high = high && made != NULL && made->file > 2;
+        driver_close(made);
+        struct driver_module *opened = driver_open(path);
+        high = high && opened != NULL && opened->file > 2;
+        driver_close(opened);
+        unlink(path);
+        for (int i = 0; i < 3; i++)
+            high = high && dup2(copies[i], i) == i;
+    }
+    EXPECT(high);
+    for (int i = 0; i < 3; i++)
+        close(copies[i]);
+}
+
+/* Whether the file that is open is the one at the path, and has its size. */
+static void another_file(const char *path, const char *other)
+{
+    struct driver_module *module = driver_create(path, 100);
+    EXPECT(module != NULL && driver_check(module, path) == 0);
+    EXPECT(rename(path, other) == 0 && driver_check(module, path) == -1 && errno == ESTALE);
+    EXPECT(driver_check(module, other) == 0);
+    EXPECT(truncate(other, 792) == 0 && driver_check(module, other) == -1 && errno == EINVAL);
+    EXPECT(truncate(other, 800) == 0);
+    struct driver_module *second = driver_create(path, 100);
+    EXPECT(second != NULL && driver_check(module, path) == -1 && errno == ESTALE && driver_check(second, path) == 0);
+    EXPECT(one(second, 1, 5, 77) == 0 && one(second, 2, 5, 1) == 0);
+    driver_close(module);
+    driver_close(second);
+
+    /* Replaced between the lock and the mapping: what is mapped is what is locked. */
+    rename_from = other;
+    rename_to = path;
+    module = driver_open(path);
+    EXPECT(module != NULL && rename_from == NULL && module->words[5] == 77 && driver_check(module, path) == -1 && errno == ESTALE);
+    EXPECT(one(module, 1, 5, 78) == 0 && one(module, 2, 5, 1) == 0 && in_file(path, 5) == 0);
+    driver_close(module);
+    unlink(path);
+}
+
+static void no_module(const char *path)
+{
+    struct stat about;
+    driver_close(NULL);
+    alarm(20); /* a FIFO that is opened would block */
+    EXPECT(mkfifo(path, 0600) == 0 && driver_open(path) == NULL && errno == ENODEV);
+    alarm(0);
+    unlink(path);
+    EXPECT(driver_open("/dev/null") == NULL && errno == ENODEV);
+    EXPECT(driver_open("/") == NULL && errno == EISDIR);
+    /* Holes get room on the disk. */
+    int file = open(path, O_RDWR | O_CREAT | O_EXCL, 0600);
+    EXPECT(file >= 0 && ftruncate(file, 65536) == 0 && fstat(file, &about) == 0 && about.st_blocks < 128);
+    struct driver_module *module = driver_open(path);
+    EXPECT(module != NULL && module->count == 8192 && fstat(file, &about) == 0 && about.st_blocks >= 128);
+    driver_close(module);
+    close(file);
+    unlink(path);
+}
+
 int main(int count, char **argument)
 {
     if (count != 2)
         return 2;
     const char *path = argument[1];
+    char folder[1000], other[1000];
+    EXPECT(strchr(path, '/') != NULL && strlen(path) < 900);
+    snprintf(other, sizeof other, "%s-other", path);
+    strcpy(folder, path);
+    *strrchr(folder, '/') = '\0';
     enum { WORDS = 1500 }; /* some pages, and no whole number of them */
     unlink(path);
     EXPECT(driver_open(path) == NULL && errno == ENOENT);
@@ -83,8 +227,12 @@ int main(int count, char **argument)
     driver_close(module);
     EXPECT(truncate(path, 8 * WORDS + 4) == 0 && driver_open(path) == NULL && errno == EINVAL);
     EXPECT(truncate(path, 0) == 0 && driver_open(path) == NULL && errno == EINVAL);
-    EXPECT(driver_open("/") == NULL && errno == EISDIR);
     unlink(path);
+    for (no_rename = 0; no_rename < 2; no_rename++)
+        making(path, folder);
+    standard_streams(path);
+    another_file(path, other);
+    no_module(path);
     printf("driver: %d checks\n", checks);
     return 0;
 }

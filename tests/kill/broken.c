@@ -5,12 +5,17 @@
  *     mark-first  a force stores its marks before it flushes the records
  *     last        a call's last op is left out
  *     late        a call's ops are carried out with the next call
+ *     forget      when the module is closed, the mark that was stored last is taken away again
+ *     overflow    a byte after the ops is read, which a sanitizer finds
+ *     hang        a force does not return
  *
- * It is driver/driver.c with another driver_carry, so it takes every back end. */
+ * The last three are for tests/cli/fuzz. It is driver/driver.c with another driver_carry and driver_close, so it takes every back end. */
 
 #define driver_carry carry_in_turn
+#define driver_close close_in_turn
 #include "../../driver/driver.c"
 #undef driver_carry
+#undef driver_close
 
 #include "drivelog.h"
 
@@ -18,6 +23,19 @@ enum { SUPERLINE = 24 };
 
 static uint64_t held[DRIVELOG_OPS_WORDS];
 static size_t held_count;
+static uint64_t last_marked; /* the word that has the mark, 0 if there is none */
+static volatile uint8_t seen;
+
+/* Reads one byte too far of a copy of the ops. */
+static void read_too_far(const uint64_t *ops, size_t count)
+{
+    uint8_t *copy = malloc(8 * OP_WORDS * count + 1);
+    if (copy == NULL)
+        abort();
+    memcpy(copy, ops, 8 * OP_WORDS * count);
+    seen = copy[8 * OP_WORDS * count + 1];
+    free(copy);
+}
 
 static int carry_those(struct driver_module *module, const uint64_t *ops, size_t count, uint64_t code)
 {
@@ -32,11 +50,27 @@ int driver_carry(struct driver_module *module, const uint64_t *ops, size_t count
     const char *way = getenv("BREAK");
     if (way == NULL || count > DRIVELOG_MAX_OPS)
         return carry_in_turn(module, ops, count);
+    /* Only a force's ops begin with a flush. */
+    int forces = count > 1 && ops[0] == FLUSH;
+    if (strcmp(way, "forget") == 0) {
+        for (size_t i = 0; forces && i < count; i++)
+            last_marked = ops[OP_WORDS * i] == STORE ? ops[OP_WORDS * i + 1] : last_marked;
+        return carry_in_turn(module, ops, count);
+    }
+    if (strcmp(way, "overflow") == 0) {
+        if (forces)
+            read_too_far(ops, count);
+        return carry_in_turn(module, ops, count);
+    }
+    if (strcmp(way, "hang") == 0) {
+        while (forces)
+            pause();
+        return carry_in_turn(module, ops, count);
+    }
     if (strcmp(way, "no-flush") == 0)
         return carry_those(module, ops, count, STORE);
     if (strcmp(way, "mark-first") == 0) {
-        /* Only a force's ops begin with a flush. */
-        if (count == 0 || ops[0] != FLUSH)
+        if (!forces)
             return carry_in_turn(module, ops, count);
         return carry_those(module, ops, count, STORE) | carry_those(module, ops, count, FLUSH);
     }
@@ -60,4 +94,12 @@ int driver_carry(struct driver_module *module, const uint64_t *ops, size_t count
     }
     errno = EINVAL;
     return -1;
+}
+
+void driver_close(struct driver_module *module)
+{
+    uint64_t word[OP_WORDS] = {STORE, last_marked, 0};
+    if (last_marked != 0)
+        carry_in_turn(module, word, 1);
+    close_in_turn(module);
 }

@@ -58,22 +58,21 @@ static void power_fails(const struct driver_module *module)
     raise(SIGKILL);
 }
 
-/* Before an op, and behind it. */
+/* Before an op, and after it. */
 static void before_op(const struct driver_module *module)
 {
     if (!power_lasts && ops_left == 0)
         power_fails(module);
 }
 
-static void behind_op(const struct driver_module *module)
+static void after_op(const struct driver_module *module)
 {
     if (!power_lasts && --ops_left == 0 && !fails_late)
         power_fails(module);
 }
 
-static const uint64_t *map(struct driver_module *module, const char *path)
+static const uint64_t *map(struct driver_module *module)
 {
-    (void)path;
     size_t bytes = 8 * module->count;
     newest = malloc(bytes);
     flushed = malloc(bytes);
@@ -110,7 +109,7 @@ static void store(struct driver_module *module, uint64_t word, uint64_t value)
     }
     since->values[since->count++] = value;
     newest[word] = value;
-    behind_op(module);
+    after_op(module);
 }
 
 static int flush(struct driver_module *module, uint64_t first, uint64_t count)
@@ -120,6 +119,6 @@ static int flush(struct driver_module *module, uint64_t first, uint64_t count)
         flushed[i] = newest[i];
         pending[i].count = 0;
     }
-    behind_op(module);
+    after_op(module);
     return 0;
 }

@@ -2,7 +2,7 @@
 use crate::log;
 use crate::room;
 use drivelog::State;
-use packing::words_from;
+use layout::words_from;
 ghost use Prim.Native.Nat.{_*_, _≤_};
 ghost use lib.ListN.{length};
 
@@ -15,7 +15,7 @@ pub struct Job {
     pub words: u64,
 }
 
-// What a job came to: the processor time, and a CRC-32 of what it left.
+// The result of a job: the processor time, and a CRC-32 of what it left.
 pub struct Done {
     pub microseconds: u64,
     pub digest: u64,
@@ -66,9 +66,9 @@ fn work(
     log::list_over(image, text, job.count)
 }
 
-// Job 1000 + k: the release of the head with k released records behind it, so often, each time of the same state. Job
-// 2000 + k is the same with no LSN, 0: such a release is refused behind the soundness test, so that the two tell what
-// lies behind that test.
+// Job 1000 + k: the release of the head with k released records after it, so often, each time of the same state. Job
+// 2000 + k is the same with no LSN, 0: such a release is refused after the soundness test, so that the two tell what
+// lies after that test.
 fn release_job(job: Job, image: &mut [u64], ops: &mut [u64], payload: &[u8]) -> Done {
     let s = log::start(image, ops, payload, job.live);
     let t = log::release_behind(s, image, ops, job.number % 1000);

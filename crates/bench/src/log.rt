@@ -7,8 +7,8 @@ use drivelog::format;
 use drivelog::recover;
 use drivelog::release;
 use drivelog::reserve;
-use listing::Listed;
-use listing::list_image;
+use list_image::Listed;
+use list_image::list_image;
 ghost use Prim.Native.Nat.{_≤_};
 ghost use lib.ListN.{length};
 
@@ -79,7 +79,7 @@ pub fn start(image: &mut [u64], ops: &mut [u64], payload: &[u8], live: u64) -> S
     forced.state
 }
 
-// The `k` records behind the head released. A proved loop has to end: it goes up to the LSN behind them.
+// The `k` records after the head released. A proved loop has to end: it goes up to the LSN after them.
 pub fn release_behind(s: State, image: &mut [u64], ops: &mut [u64], k: u64) -> State {
     let mut t = s;
     let mut left = k;

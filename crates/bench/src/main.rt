@@ -7,8 +7,8 @@ mod log;
 mod room;
 
 use jobs::Job;
-use listing::listing_room;
-use packing::words_from;
+use layout::words_from;
+use list_image::listing_room;
 
 // Reads a job. Input that is too short makes job 0, which there is not.
 fn read_job() -> Job {
@@ -26,7 +26,7 @@ fn read_job() -> Job {
     }
 }
 
-// Prints what a job came to.
+// Prints the result of a job.
 fn print(microseconds: u64, digest: u64) {
     io::print_decimal(libc::STDOUT_FILENO, microseconds);
     io::write_all(libc::STDOUT_FILENO, b" ");

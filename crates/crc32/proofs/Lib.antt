@@ -1,2 +1,2 @@
--- The laws of the register that the proofs of this crate cite. Those for callers stand in crate crc_bits.
+-- The laws of the register that the proofs of this crate cite. Those for callers are in crate crc_spec.
 pub mod Register

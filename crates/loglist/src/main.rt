@@ -2,9 +2,9 @@
 // is `bytesText` of what it reads, by the contract of `list_bytes`; that it reads and prints is beyond any contract.
 use libc::STDIN_FILENO;
 use libc::STDOUT_FILENO;
-use listing::Listed;
-use listing::list_bytes;
-use listing::listing_room;
+use list_image::Listed;
+use list_image::list_bytes;
+use list_image::listing_room;
 ghost use mathlib.Core.Path.{_≡_};
 ghost use lib.ListN.{length};
 

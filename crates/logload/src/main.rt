@@ -1,16 +1,17 @@
 // The program logload: reads what loglist prints from standard input, and writes the bytes of an image of 8,192 words
-// that lists the same, or a refusal. The image is `load` of what it reads, by the contract of `load_text`; that it
-// reads and writes is beyond any contract.
+// that lists the same, or a refusal. The image is `load` of what it reads, by the contract of `load_text`, and the bytes
+// are those of its words; that it reads and writes is beyond any contract.
 use libc::STDIN_FILENO;
 use libc::STDOUT_FILENO;
-use lines::refused_line;
-use load::Answer;
-use load::load_text;
+use list_lines::refused_line;
+use load_bytes::put_words;
+use load_image::Answer;
+use load_image::load_text;
 use refusal::Refusal;
 use refusal::number_of;
 ghost use mathlib.Core.Path.{_≡_};
-ghost use Prim.Native.Nat.{_+_, _≤_};
 ghost use lib.ListN.{length};
+ghost use Rattle.crc_spec.specs.Bytes.{wordBytes};
 
 // Room for the longest input and one byte more: input that fills it is too long, and no more of it is read.
 fn input_room() -> [u8; 262145]
@@ -33,34 +34,18 @@ fn byte_room() -> [u8; 65536]
     [0; 65536]
 }
 
-// Puts the bytes of a word, least significant first.
-fn put_word(out: &mut [u8], at: usize, w: u64)
-    requires { ⌜ at + 8 ≤ length (now out) ⌝ }
+// The bytes that an image is written as.
+fn image_bytes(image: &[u64; 8192]) -> [u8; 65536]
+    ensures { λ r. ⌜ r ≡ wordBytes (now (image .entry)) ⌝ }
 {
-    let mut rest = w;
-    let mut i: usize = 0;
-    while i < 8 {
-        out[at + i] = (rest % 256) as u8;
-        rest = rest / 256;
-        i += 1;
-    }
-}
-
-// Puts an image's bytes.
-fn put_image(image: &[u64; 8192], out: &mut [u8])
-    requires { ⌜ 65536 ≤ length (now out) ⌝ }
-{
-    let mut j: usize = 0;
-    while j < 8192 {
-        put_word(out, 8 * j, image[j]);
-        j += 1;
-    }
+    let mut bytes = byte_room();
+    put_words(image, &mut bytes);
+    bytes
 }
 
 // Writes an image's bytes.
 fn write_image(image: &[u64; 8192]) {
-    let mut bytes = byte_room();
-    put_image(image, &mut bytes);
+    let bytes = image_bytes(image);
     io::write_all(STDOUT_FILENO, &bytes);
 }
 

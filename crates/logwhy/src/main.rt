@@ -1,10 +1,10 @@
-// The program logwhy: reads an image's bytes and behind them an LSN, 8 bytes, from standard input, and prints why that
+// The program logwhy: reads an image's bytes and after them an LSN, 8 bytes, from standard input, and prints why that
 // LSN is listed or not. What it prints is `replyLine (inputWhy ..)` of what it reads, by the contract of `why_line`;
 // that it reads and prints is beyond any contract.
 use libc::STDIN_FILENO;
 use libc::STDOUT_FILENO;
-use reason::LINE_ROOM;
-use reason::why_line;
+use why_listed::LINE_ROOM;
+use why_listed::why_line;
 ghost use mathlib.Core.Path.{_≡_};
 ghost use lib.ListN.{length};
 

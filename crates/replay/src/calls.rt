@@ -1,16 +1,16 @@
 // The calls of the log. What they do is said by their own contracts.
 use crate::said;
-use crate::said::REFUSED;
 use crate::said::Told;
+use drivelog::Answer;
 use drivelog::Cursor;
 use drivelog::Outcome;
 use drivelog::State;
 use drivelog::TABLE_SIZE;
-use holding::load;
-use holding::save;
-use script::input::Command;
-use script::setup::fill_bytes;
-use statewords::STATE_WORDS;
+use replay_script::input::Command;
+use replay_script::setup::fill_bytes;
+use words_state::STATE_WORDS;
+use words_state::load;
+use words_state::save;
 
 // Makes a writing call, with its first two arguments.
 fn write(
@@ -63,8 +63,19 @@ fn read(c: Command, cursor: Cursor, image: &[u64], output: &mut [u8]) -> Told {
     Told { said, cursor }
 }
 
-// Makes a command's call, if it has one, on the state and the cursor that are kept, and keeps the state after it,
-// unless it was refused. `bytes` are those of a copy or of a fetch.
+// Whether the state that a writing call returns is the one to go on with. It always is, a refused call's too, but for a
+// refused format or recover: these make a state anew, and where they are refused there is none.
+fn goes_on(number: u64, answer: Answer) -> bool {
+    if (number == 10) | (number == 17) {
+        if let Answer::Refused(_) = answer {
+            return false;
+        }
+    }
+    true
+}
+
+// Makes a command's call, if it has one, on the state and the cursor that are kept, and keeps the state that it
+// returns. `bytes` are those of a copy or of a fetch.
 pub fn make(
     c: Command,
     cursor: Cursor,
@@ -84,7 +95,7 @@ pub fn make(
     let outcome = write(number, c.first, c.second, s, image, ops, bytes);
     let answer = outcome.answer;
     let said = said::of_answer(answer, outcome.ops as u64);
-    if said.word != REFUSED {
+    if goes_on(number, answer) {
         save(outcome.state, 0, TABLE_SIZE, state);
     }
     Told { said, cursor }

@@ -1,21 +1,21 @@
 // The program replay: reads a script of calls from standard input, makes each call on its own image, op buffer, state
-// and cursor, and prints what each call answered and left behind. docs/REPLAY.md has the script's words and the lines.
+// and cursor, and prints what each call answered and left after. docs/REPLAY.md has the script's words and the lines.
 mod calls;
 mod said;
 
 use calls::make;
 use drivelog::Cursor;
-use script::input;
-use script::input::Command;
-use script::input::MAX_BYTES;
-use script::input::MAX_IMAGE;
-use script::input::MAX_OPS;
-use script::limited;
-use script::output::TEXT_SIZE;
-use script::print::print;
-use script::setup::fill_words;
-use script::setup::set;
-use statewords::STATE_WORDS;
+use replay_script::input;
+use replay_script::input::Command;
+use replay_script::input::MAX_BYTES;
+use replay_script::input::MAX_IMAGE;
+use replay_script::input::MAX_OPS;
+use replay_script::limited;
+use replay_script::output::TEXT_SIZE;
+use replay_script::print::print;
+use replay_script::setup::fill_words;
+use replay_script::setup::set;
+use words_state::STATE_WORDS;
 
 // Carries a command out on the used words, and answers the cursor after it. `bytes` are those of a copy or of a fetch.
 fn act(

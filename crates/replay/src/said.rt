@@ -5,21 +5,9 @@ use drivelog::Fetched;
 use drivelog::Opened;
 use drivelog::Refusal;
 use drivelog::Step;
-use script::input::Command;
-use script::print::Said;
-
-// The words of answers, each by its place in the text of `script::output::put_word`.
-const OK: u64 = 23;
-
-const DURABLE: u64 = 24;
-
-const DEFERRED: u64 = 25;
-
-const RECORD: u64 = 26;
-
-const END: u64 = 27;
-
-pub const REFUSED: u64 = 28;
+use replay_script::input::Command;
+use replay_script::print::AnswerWord;
+use replay_script::print::Said;
 
 // What a call answered, and the cursor to go on with.
 pub struct Told {
@@ -28,7 +16,7 @@ pub struct Told {
 }
 
 // An answer with up to two numbers.
-fn short(word: u64, count: u64, first: u64, second: u64, ops: u64) -> Said {
+fn short(word: AnswerWord, count: u64, first: u64, second: u64, ops: u64) -> Said {
     Said {
         word,
         count,
@@ -43,7 +31,7 @@ fn refused(why: Refusal) -> Said {
     let number = drivelog::number_of(why);
     let detail = drivelog::detail_of(why);
     Said {
-        word: REFUSED,
+        word: AnswerWord::Refused,
         count: 2,
         numbers: [number, detail, 0, 0, 0, 0],
         damage: drivelog::damage_of(why),
@@ -54,16 +42,16 @@ fn refused(why: Refusal) -> Said {
 // The answer of a writing call, with its count of ops.
 pub fn of_answer(answer: Answer, ops: u64) -> Said {
     match answer {
-        Answer::Done => short(OK, 0, 0, 0, ops),
-        Answer::Reserved(lsn, pos) => short(OK, 2, lsn, pos, ops),
-        Answer::Durable => short(DURABLE, 0, 0, 0, ops),
-        Answer::Deferred => short(DEFERRED, 0, 0, 0, ops),
+        Answer::Done => short(AnswerWord::Ok, 0, 0, 0, ops),
+        Answer::Reserved(lsn, pos) => short(AnswerWord::Ok, 2, lsn, pos, ops),
+        Answer::Durable => short(AnswerWord::Kept, 0, 0, 0, ops),
+        Answer::Deferred => short(AnswerWord::PutOff, 0, 0, 0, ops),
         Answer::Refused(why) => refused(why),
     }
 }
 
 // An answer of six numbers.
-fn long(word: u64, numbers: [u64; 6]) -> Said {
+fn long(word: AnswerWord, numbers: [u64; 6]) -> Said {
     Said {
         word,
         count: 6,
@@ -78,7 +66,7 @@ pub fn of_opened(opened: Opened, cursor: Cursor) -> Told {
     match opened {
         Opened::At(c) => {
             let said = long(
-                OK,
+                AnswerWord::Ok,
                 [
                     c.pos,
                     c.lsn,
@@ -97,18 +85,21 @@ pub fn of_opened(opened: Opened, cursor: Cursor) -> Told {
     }
 }
 
-// The answer of next, with the cursor behind a record.
+// The answer of next, with the cursor after a record.
 pub fn of_step(step: Step, cursor: Cursor) -> Told {
     match step {
         Step::Record(f, behind) => {
-            let said = long(RECORD, [f.pos, f.lsn, f.kind, f.length, f.mark, f.epoch]);
+            let said = long(
+                AnswerWord::Record,
+                [f.pos, f.lsn, f.kind, f.length, f.mark, f.epoch],
+            );
             Told {
                 said,
                 cursor: behind,
             }
         }
         Step::End(lsn) => {
-            let said = short(END, 1, lsn, 0, 0);
+            let said = short(AnswerWord::End, 1, lsn, 0, 0);
             Told { said, cursor }
         }
         Step::Refused(why) => {
@@ -121,14 +112,14 @@ pub fn of_step(step: Step, cursor: Cursor) -> Told {
 // The answer of fetch.
 pub fn of_fetched(fetched: Fetched) -> Said {
     match fetched {
-        Fetched::Done => short(OK, 0, 0, 0, 0),
+        Fetched::Done => short(AnswerWord::Ok, 0, 0, 0, 0),
         Fetched::Refused(why) => refused(why),
     }
 }
 
 // Where no call is made nothing is said. Command 6 is another cursor.
 pub fn of_none(c: Command, cursor: Cursor) -> Told {
-    let said = short(OK, 0, 0, 0, 0);
+    let said = short(AnswerWord::Ok, 0, 0, 0, 0);
     if c.number == 6 {
         let set = Cursor {
             pos: c.first,

@@ -1,4 +1,4 @@
--- Texts put one behind another: nothing, one byte, two texts in a row, and one byte more of a byte string.
+-- Texts put one after another: nothing, one byte, two texts in a row, and one byte more of a byte string.
 -- Cites specs/Text.antt.
 use mathlib.Core.Path.{_≡_, refl, sym, ap, _∙_}
 use mathlib.Core.List.{List, [], _∷_, _++_, append-assoc, append-nil}
@@ -27,8 +27,9 @@ appended-one at a x h = record {
   room = length-set a at x;
 }
 
--- one text behind another
-pub appended-both : {at r t : ℕ} {a b c s u : List ℕ} → Appended at r a b s → Appended r t b c u → Appended at t a c (s ++ u)
+-- one text after another
+pub appended-both : {at r t : ℕ} {a b c s u : List ℕ} → Appended at r a b s → Appended r t b c u
+    → Appended at t a c (s ++ u)
 appended-both {at} {r} {t} {a} {b} {c} {s} {u} p q =
     let l = length-append s u in
     let pe = p .end in
@@ -42,12 +43,14 @@ appended-both {at} {r} {t} {a} {b} {c} {s} {u} p q =
     }
 
 -- one more byte of a byte string
-pub bytes-more : {at i : ℕ} {a b : List ℕ} (bs : List ℕ) → Appended at (at + i) a b (take i bs) → i < length bs → at + length bs ≤ length a
+pub bytes-more : {at i : ℕ} {a b : List ℕ} (bs : List ℕ) → Appended at (at + i) a b (take i bs) → i < length bs
+    → at + length bs ≤ length a
     → Appended at (at + (i + 1)) a (set b (at + i) (getD bs i 0)) (take (i + 1) bs)
 bytes-more {at} {i} {a} {b} bs p l h =
     let lb = p .room in
     let e : at + i + 1 ≡ at + (i + 1) = omega arith in
-    rw (add-one i, take-suc bs i 0 l) (rw (← add-one i) (rw e at (appended-both p (appended-one (at + i) b (getD bs i 0) (omega arith)))))
+    rw (add-one i, take-suc bs i 0 l)
+    (rw (← add-one i) (rw e at (appended-both p (appended-one (at + i) b (getD bs i 0) (omega arith)))))
 
 hex-append : (xs ys : List ℕ) → hexText (xs ++ ys) ≡ hexText xs ++ hexText ys
 unfolding hexText
@@ -60,7 +63,8 @@ length-hex [] = refl
 length-hex (b ∷ bs) = let h = length-hex bs in omega arith
 
 -- one more byte of a byte string in hex
-pub hex-more : {at i : ℕ} {a b : List ℕ} (bs : List ℕ) (x y : ℕ) → Appended at (at + 2 * i) a b (hexText (take i bs)) → i < length bs
+pub hex-more : {at i : ℕ} {a b : List ℕ} (bs : List ℕ) (x y : ℕ) → Appended at (at + 2 * i) a b (hexText (take i bs))
+    → i < length bs
     → at + 2 * length bs ≤ length a → x ≡ glyph (getD bs i 0 / 16) → y ≡ glyph (getD bs i 0 % 16)
     → Appended at (at + 2 * (i + 1)) a (set (set b (at + 2 * i) x) (at + 2 * i + 1) y) (hexText (take (i + 1) bs))
 unfolding hexText
@@ -68,8 +72,10 @@ hex-more {at} {i} {a} {b} bs x y p l h ex ey =
     let lb = p .room in
     let ls = length-set b (at + 2 * i) x in
     let e : at + 2 * i + 1 + 1 ≡ at + 2 * (i + 1) = omega arith in
-    let two = appended-both (appended-one (at + 2 * i) b x (omega arith)) (appended-one (at + 2 * i + 1) (set b (at + 2 * i) x) y (omega arith)) in
-    let t : hexText (take (i + 1) bs) ≡ hexText (take i bs) ++ (x ∷ y ∷ []) = rw (add-one i, take-suc bs i 0 l, hex-append, ex, ey) in
+    let two = appended-both (appended-one (at + 2 * i) b x (omega arith))
+    (appended-one (at + 2 * i + 1) (set b (at + 2 * i) x) y (omega arith)) in
+    let t : hexText (take (i + 1) bs) ≡ hexText (take i bs) ++ (x ∷ y ∷ []) =
+    rw (add-one i, take-suc bs i 0 l, hex-append, ex, ey) in
     rw t (rw e at (appended-both p two))
 
 -- a text ends within the buffer

@@ -26,11 +26,16 @@ digits-decimal (suc most) (suc (suc k)) n h f =
     let p1 = pow-suc 10 k in
     let p2 = pow-suc 10 (suc k) in
     let one = one-le-pow k 10 (omega arith) in
-    rw (le-ltb n 10 (omega arith), digits-decimal most (suc k) (n / 10) (omega arith) (omega arith, omega arith, λ l. simp unary-clauses (omega arith)))
+    rw (
+      le-ltb n 10 (omega arith),
+      digits-decimal most (suc k) (n / 10) (omega arith)
+          (omega arith, omega arith, λ l. simp unary-clauses (omega arith)),
+    )
 
 pub length-digits : (k n : ℕ) → length (digits 10 k n) ≡ k
 length-digits zero n = refl
-length-digits (suc k) n = rw (length-append (digits 10 k (n / 10)) (glyph (n % 10) ∷ []), length-digits k (n / 10)) (omega arith)
+length-digits (suc k) n =
+    rw (length-append (digits 10 k (n / 10)) (glyph (n % 10) ∷ []), length-digits k (n / 10)) (omega arith)
 
 -- a number of 64 bits has at most 20 digits
 pub digits-most : (k n : ℕ) → n < 18446744073709551616 → Fewest 10 1 n k → k ≤ 20
@@ -50,15 +55,18 @@ unfolding decimalWithin
 length-decimal zero n = omega arith
 length-decimal (suc most) n = go (length-decimal most (n / 10)) (ltb n 10)
   where
-    go : length (decimalWithin most (n / 10)) ≤ most → (b : Bool) → length (cond b (glyph n ∷ []) (decimalWithin most (n / 10) ++ (glyph (n % 10) ∷ []))) ≤ suc most
+    go : length (decimalWithin most (n / 10)) ≤ most → (b : Bool)
+        → length (cond b (glyph n ∷ []) (decimalWithin most (n / 10) ++ (glyph (n % 10) ∷ []))) ≤ suc most
     go h true = omega arith
     go h false = rw (length-append (decimalWithin most (n / 10)) (glyph (n % 10) ∷ [])) (omega arith)
 
 -- the digits put are the decimal text
-pub decimal-put : {at r n : ℕ} {out out′ : List ℕ} (k : ℕ) (ds : List ℕ) → Appended at r out out′ (take k ds) → take k ds ≡ digits 10 k n
+pub decimal-put : {at r n : ℕ} {out out′ : List ℕ} (k : ℕ) (ds : List ℕ) → Appended at r out out′ (take k ds)
+    → take k ds ≡ digits 10 k n
     → n < 18446744073709551616 → Fewest 10 1 n k → Appended at r out out′ (decimalText n)
 decimal-put {at} {r} {n} k ds p e h f = rw (e, digits-decimal 20 k n (digits-most k n h f) f) at p
 
 -- there are at most 20 of them
-pub decimal-few : {n : ℕ} (k : ℕ) (ds : List ℕ) → take k ds ≡ digits 10 k n → n < 18446744073709551616 → Fewest 10 1 n k → length (take k ds) ≤ 20
+pub decimal-few : {n : ℕ} (k : ℕ) (ds : List ℕ) → take k ds ≡ digits 10 k n → n < 18446744073709551616 → Fewest 10 1 n k
+    → length (take k ds) ≤ 20
 decimal-few {n} k ds e h f = rw (e, length-digits k n) (digits-most k n h f)

@@ -1,5 +1,5 @@
 // Text built in a buffer that the caller lends: bytes, decimal numbers, hex pairs. Each function puts its text from an
-// index on and answers the index behind it, so that calls put one text behind another.
+// index on and answers the index after it, so that calls put one text after another.
 // The contracts cite specs/Text.antt.
 ghost use mathlib.Core.Path.{_≡_};
 ghost use Prim.Native.Nat.{_+_, _*_, _≤_, _<_};

@@ -12,7 +12,8 @@ array-share-prefix-line : tie.Need-array-share-prefix-line
 array-share-prefix-line c = appended-within (c .before .refused-line .ensures) (omega arith)
 
 slice-aggregate-write-all : tie.Need-slice-aggregate-write-all
-slice-aggregate-write-all c = sym (length-take-le _ _ (appended-within (c .before .before .refused-line .ensures) (omega arith)))
+slice-aggregate-write-all c =
+    sym (length-take-le _ _ (appended-within (c .before .before .refused-line .ensures) (omega arith)))
 
 pub write-refusal-spec : {M : Type 1} → statement M
 write-refusal-spec =

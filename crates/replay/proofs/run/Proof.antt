@@ -7,7 +7,8 @@ use Rattle.replay.proofs.run.Statement.{statement}
 use Rattle.replay.proofs.run.Tie as tie
 
 abbrev Inv-loop : tie.InvT-loop
-Inv-loop image₀ ops₀ bytes₀ out₀ state₀ kept₀ turns₀ image ops bytes out state kept turns = (length image ≡ length image₀) × (length ops ≡ length ops₀) × (length bytes ≡ length bytes₀)
+Inv-loop image₀ ops₀ bytes₀ out₀ state₀ kept₀ turns₀ image ops bytes out state kept turns =
+    (length image ≡ length image₀) × (length ops ≡ length ops₀) × (length bytes ≡ length bytes₀)
 
 abbrev μ-loop : tie.MeasureT-loop
 μ-loop image₀ ops₀ bytes₀ out₀ state₀ kept₀ turns₀ image ops bytes out state kept turns = turns

@@ -21,10 +21,14 @@ loop-holds : tie.Need-loop-holds Inv-loop μ-loop
 loop-holds c = (rw add-zero (appended-none _ _), omega arith)
 
 loop-again : tie.Need-loop-again Inv-loop μ-loop
-loop-again c = (bytes-more _ (c .before .before .loop .inv .0) (c .before .loop-test .taken) (c .before .before .before .pre), omega arith)
+loop-again c = (
+  bytes-more _ (c .before .before .loop .inv .0) (c .before .loop-test .taken) (c .before .before .before .pre),
+  omega arith,
+)
 
 returns : tie.Need-returns Inv-loop μ-loop
-returns c = appended-as (c .before .loop .inv .0) (take-all (c .before .loop .i) (now (c .before .before .args .bytes)) (omega arith))
+returns c = appended-as (c .before .loop .inv .0)
+    (take-all (c .before .loop .i) (now (c .before .before .args .bytes)) (omega arith))
 
 pub put-bytes-spec : {M : Type 1} → statement M
 put-bytes-spec =

@@ -31,11 +31,15 @@ slice-write-out-2 c = simp length-set (omega arith)
 loop-again : tie.Need-loop-again Inv-loop μ-loop
 loop-again c =
     let turn = c .before .before .before in
-    let start = turn .before .before .before .before in
-    (hex-more _ _ _ (turn .before .loop .inv .0) (turn .loop-test .taken) (start .pre) (c .before .hex-digit .ensures) (c .hex-digit2 .ensures), omega arith)
+    let start = turn .before .before .before .before in (
+      hex-more _ _ _ (turn .before .loop .inv .0) (turn .loop-test .taken) (start .pre) (c .before .hex-digit .ensures)
+          (c .hex-digit2 .ensures),
+      omega arith,
+    )
 
 returns : tie.Need-returns Inv-loop μ-loop
-returns c = appended-as (c .before .loop .inv .0) (ap hexText (take-all (c .before .loop .i) (now (c .before .before .before .before .args .bytes)) (omega arith)))
+returns c = appended-as (c .before .loop .inv .0)
+    (ap hexText (take-all (c .before .loop .i) (now (c .before .before .before .before .args .bytes)) (omega arith)))
 
 pub put-hex-spec : {M : Type 1} → statement M
 put-hex-spec =

@@ -9,7 +9,16 @@ use Rattle.bench.proofs.jobs.run.Statement.{statement}
 use Rattle.bench.proofs.jobs.run.Tie as tie
 
 crc-job-requires : tie.Need-crc-job-requires
-crc-job-requires c κs = omega (arith, length-take-le (c .before .before .limited2 .result) (now (c .before .before .before .before .before .before .before .before .before .before .args .image)) (c .before .before .limited2 .ensures .0), length-take-le (c .before .before .before .before .before .limited .result) (now (c .before .before .before .before .before .before .before .before .before .before .args .payload)) (c .before .before .before .before .before .limited .ensures .0), c .before .before .limited2 .ensures .1)
+crc-job-requires c κs = omega (
+  arith,
+  length-take-le (c .before .before .limited2 .result)
+      (now (c .before .before .before .before .before .before .before .before .before .before .args .image))
+      (c .before .before .limited2 .ensures .0),
+  length-take-le (c .before .before .before .before .before .limited .result)
+      (now (c .before .before .before .before .before .before .before .before .before .before .args .payload))
+      (c .before .before .before .before .before .limited .ensures .0),
+  c .before .before .limited2 .ensures .1,
+)
 
 pub run-spec : {M : Type 1} → statement M
 run-spec =

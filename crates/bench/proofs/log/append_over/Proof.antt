@@ -7,7 +7,8 @@ use Rattle.bench.proofs.log.append_over.Statement.{statement}
 use Rattle.bench.proofs.log.append_over.Tie as tie
 
 abbrev Inv-loop : tie.InvT-loop
-Inv-loop image₀ ops₀ payload live count t₀ left₀ image ops t left = (length image ≡ length image₀) × (length ops ≡ length ops₀)
+Inv-loop image₀ ops₀ payload live count t₀ left₀ image ops t left = (length image ≡ length image₀)
+    × (length ops ≡ length ops₀)
 
 abbrev μ-loop : tie.MeasureT-loop
 μ-loop image₀ ops₀ payload live count t₀ left₀ image ops t left = left

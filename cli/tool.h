@@ -1,0 +1,85 @@
+/* tool.h: what the files of the command-line tool share. drivelog.c has the command line, read.c and write.c the commands, message.c what
+ * goes wrong, in words. */
+
+#ifndef TOOL_H
+#define TOOL_H
+
+#include "drivelog.h"
+
+enum status {
+    DONE = 0,
+    REFUSED = 1,        /* by the log, or the file or standard input cannot be had */
+    WRONG_LINE = 2,     /* the command line */
+    OPEN_ELSEWHERE = 3, /* another process has the file */
+    NO_OUTPUT = 4       /* standard output cannot be written */
+};
+
+/* The words before the ring, and those of one copy of the superline among them (docs/FORMAT.md). */
+enum {
+    SUPERLINE_WORDS = 24,
+    COPY_WORDS = 8 /* from one copy to the next; copy 0 begins there too */
+};
+enum { COPY_FIRST, COPY_RING, COPY_HEAD_POS, COPY_HEAD_LSN, COPY_EPOCH, COPY_CHECK };
+#define MAX_LSN (((uint64_t)1 << 62) - 1)
+
+/* The command line. */
+extern const char *path;
+extern uint64_t wait_seconds;
+
+/* The working image, one word longer than an image can be, so that a file that is too long is refused as one; and the file's size. */
+extern uint64_t image[DRIVELOG_MAX_IMAGE_WORDS + 1], reply[DRIVELOG_REPLY_WORDS];
+extern size_t words;
+extern uint64_t file_bytes;
+
+#define REPLY reply, DRIVELOG_REPLY_WORDS
+
+/* ---------------------------------------------------------------- message.c */
+
+/* A wrong command line. The format is printf's. */
+__attribute__((noreturn, format(printf, 1, 2))) void usage(const char *format, ...);
+/* Something is wrong with the file. */
+_Noreturn void fail(const char *what);
+/* The same, for what errno says. */
+_Noreturn void fail_by_system(void);
+/* Standard input cannot be read, and errno says why. */
+_Noreturn void fail_to_read_input(void);
+
+/* What the command asked the log for, so that a refusal can name it. */
+extern uint64_t asked_kind, asked_length, asked_lsn;
+
+const char *test_word(uint64_t test);
+const char *test_in_words(uint64_t test);
+/* The refusal in the reply. */
+void say_refusal(void);
+/* What a call answered; a refusal is said and ends the program. */
+uint64_t granted(int64_t answer);
+/* Ends the program with a refusal that the log would give whatever it holds. */
+_Noreturn void refuse(int number);
+
+/* ---------------------------------------------------------------- read.c */
+
+/* Reads the file into the image. */
+void read_image(void);
+int64_t next(uint64_t *cursor, uint64_t *record);
+/* Whether to try once more to lock the file: errno says that another process has it, and there is time left. */
+int try_again(void);
+
+int list(void);
+int why(uint64_t lsn);
+int info(void);
+
+/* ---------------------------------------------------------------- write.c */
+
+int format(uint64_t asked_words);
+int append(uint64_t kind, const char *text);
+int write_lines(uint64_t frequency);
+int release(uint64_t lsn);
+int release_all(void);
+int recover(void);
+
+/* ---------------------------------------------------------------- drivelog.c */
+
+/* The decimal number below 2^64 at the front of so many characters, digits only: how many digits it has, 0 if it is none. */
+size_t read_number(const char *text, size_t length, uint64_t *value);
+
+#endif

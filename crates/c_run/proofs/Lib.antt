@@ -1,0 +1,4 @@
+-- Laws, a file for each subject.
+pub mod RefusedLaws
+pub mod StepLaws
+pub mod CRunTheorem

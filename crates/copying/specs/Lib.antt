@@ -1,2 +1,0 @@
--- Definitions: what the contracts cite.
-pub mod Payload

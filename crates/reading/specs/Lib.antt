@@ -1,4 +1,0 @@
--- Definitions, a file for each subject: what the contracts cite.
-pub mod Grammar
-pub mod Reading
-pub mod Steps

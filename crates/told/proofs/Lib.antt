@@ -1,2 +1,0 @@
--- The laws of the reply's words.
-pub mod ToldLaws
