@@ -8,14 +8,14 @@ reference = reference/target/release/reference
 archive = target/lib/libdrivelog.a
 tool = target/bin/drivelog
 # The crates whose functions are the calls for C: those that read an image's bytes, and those of the log with its state in lent words.
-c_crates = c_query c_read c_write
+c_crates = c_query c_read c_write c_three
 # What the archive is made of: the files of these crates and of all that they stand on.
 c_sources := $(shell tools/sources $(c_crates))
 cli_c = $(wildcard cli/*.c) driver/driver.c
 cli_h = $(wildcard cli/*.h driver/*.h include/*.h)
 
 .PHONY: help demo list load lib tool prove test programs reference
-.PHONY: compare compare-calls compare-c compare-why compare-load crash kill bench bench-c speed
+.PHONY: compare compare-calls compare-c compare-why compare-load crash crash-three kill bench bench-c speed
 
 help:
 	@echo "make demo          a log in a file, whose writer is killed in the middle, recovered and listed"
@@ -31,6 +31,7 @@ help:
 	@echo "  compare-why      logwhy"
 	@echo "  compare-load     logload, and loglist on what it writes"
 	@echo "make crash         the crash bench: power failures in random histories, SECONDS=60 SEED=1"
+	@echo "make crash-three   the same for three modules: absent ones, missed ops, power failures, SECONDS=60 SEED=1"
 	@echo "make kill          processes killed and modules whose power fails, SECONDS=60 SEED=1"
 	@echo "make bench         how long the calls take beside plain Rust, zlib and libpmemlog, ROUNDS=31"
 	@echo "make speed         how long loglist takes for a full image, beside one in plain Rust"
@@ -91,6 +92,9 @@ compare-load: reference
 crash: programs
 	$(reference) crash $(SECONDS) --program target/bin/replay --seed $(SEED)
 
+crash-three: reference
+	$(reference) crash-three $(SECONDS) --seed $(SEED)
+
 kill: lib
 	tests/kill/run $(SECONDS) $(SEED)
 
@@ -102,16 +106,18 @@ bench: programs bench-c
 	tools/rt check bench
 	cd reference && cargo build --profile plain --offline --quiet --bin plain_bench
 	$(reference) bench target/bin/bench reference/target/plain/plain_bench target/bench/crc target/bench/pmemlog \
-	  --calls target/bench/calls --append target/bench/append --append-pmem target/bench/append-pmem --rounds $(ROUNDS)
+	  --calls target/bench/calls --append target/bench/append --append-pmem target/bench/append-pmem --three target/bench/three \
+	  --rounds $(ROUNDS)
 
 append_c = -std=c11 -O2 -Wall -Wextra -Iinclude -Idriver
 append_from = tests/bench/append.c driver/driver.c $(archive)
 bench-c:
 	mkdir -p target/bench
 	gcc -O2 -Wall -Wextra -o target/bench/crc tests/bench/crc.c -lz
-	rm -f target/bench/calls target/bench/append target/bench/append-pmem target/bench/pmemlog
+	rm -f target/bench/calls target/bench/append target/bench/append-pmem target/bench/pmemlog target/bench/three
 	if [ -e $(archive) ]; then \
 	  gcc -O2 -Wall -Wextra -Iinclude -o target/bench/calls tests/bench/calls.c $(archive) -lz && \
+	  gcc -O2 -Wall -Wextra -Iinclude -o target/bench/three tests/bench/three.c $(archive) -lz && \
 	  gcc $(append_c) -o target/bench/append $(append_from) -lz; fi
 	if [ -e $(archive) ] && pkg-config --exists libpmem; then \
 	  gcc $(append_c) -DDRIVER_PMEM -o target/bench/append-pmem $(append_from) -lz $$(pkg-config --cflags --libs libpmem); fi

@@ -54,7 +54,8 @@ enum drivelog_refusal {
     DRIVELOG_DAMAGED = 12,        /* a record is damaged; the whole list is refused, also what is before the damage; detail: its LSN */
     DRIVELOG_NO_SUCH_RECORD = 16, /* index is not below the number of listed records */
     DRIVELOG_OUTPUT_SHORT = 14,   /* the output, the rows, the reply, the cursor or the record have too little room */
-    DRIVELOG_OPS_SHORT = 15       /* the op buffer is too short; detail: the words needed */
+    DRIVELOG_OPS_SHORT = 15,      /* the op buffer is too short; detail: the words needed */
+    DRIVELOG_TOO_FEW_COPIES = 19  /* of three modules fewer than two can be read */
 };
 
 static inline const char *drivelog_refusal_text(int64_t number)
@@ -86,6 +87,7 @@ static inline const char *drivelog_refusal_text(int64_t number)
     case DRIVELOG_OUTPUT_SHORT: return "too little room for the answer";
     case DRIVELOG_OPS_SHORT: return "the op buffer is too short";
     case DRIVELOG_NO_SUCH_RECORD: return "no such record";
+    case DRIVELOG_TOO_FEW_COPIES: return "fewer than two copies can be read";
     default: return "no refusal of this version";
     }
 }
@@ -438,6 +440,39 @@ int64_t drivelog_recover(uint64_t *state, size_t state_words, uint64_t *image, s
          if (drivelog_recover(state, DRIVELOG_STATE_WORDS, image, 2048, ops, DRIVELOG_OPS_WORDS, reply, 4) == 0)
              carry_out(ops, reply[DRIVELOG_REPLY_OPS]);
 */
+
+int64_t drivelog_recover_three(uint64_t *state, size_t state_words, uint64_t *image0, size_t image0_words, uint64_t *image1,
+                               size_t image1_words, uint64_t *image2, size_t image2_words, uint64_t present, uint64_t *ops0,
+                               size_t ops0_words, uint64_t *ops1, size_t ops1_words, uint64_t *ops2, size_t ops2_words, uint64_t *reply,
+                               size_t reply_words);
+/*
+     The state of a log that is kept on three modules, from their images, which have one length. Bit i of `present` says that module i
+   is there; the other bits do not count. Image and op buffer of an absent module are neither read nor written, only the image's length
+   is looked at. A present copy is readable if drivelog_recover would read it to its end. Of the readable copies the one with the
+   greatest epoch is chosen, of these the one with the greatest end LSN, of these the lowest.
+
+     Each present module gets the 11 ops of drivelog_recover, on the chosen copy. One that differs from that copy in any word is first
+   made equal to it: with n words that takes n + 4 more ops, so an op buffer of DRIVELOG_THREE_OPS_WORDS words is always enough, one
+   of DRIVELOG_OPS_WORDS is not. Carry out all repairs, one module after another, and then the last 11 ops of each. Afterwards
+   each present image holds the same words: it is the working image of the calls that follow, whose ops go to each module that was
+   present and has carried out all its ops since.
+
+     The reply has five words: number, detail, and the count of ops of module 0, 1 and 2; a shorter one is -DRIVELOG_OUTPUT_SHORT. The
+   detail of DRIVELOG_OPS_SHORT is that of the lowest present module whose op buffer is too short.
+
+     Returns the number of the chosen copy, 0 to 2, or -DRIVELOG_IMAGE_SIZE (unequal lengths too), -DRIVELOG_UNSOUND (state_words is
+   not DRIVELOG_STATE_WORDS), -DRIVELOG_TOO_FEW_COPIES, -DRIVELOG_NUMBERS_SPENT or -DRIVELOG_OPS_SHORT.
+
+     Example, with module 1 absent:
+
+         uint64_t room = DRIVELOG_THREE_OPS_WORDS, reply[DRIVELOG_THREE_REPLY_WORDS];
+         int64_t chosen = drivelog_recover_three(state, DRIVELOG_STATE_WORDS, a, 2048, b, 2048, c, 2048, 1 | 4, ops_a, room, ops_b, room,
+                                                 ops_c, room, reply, DRIVELOG_THREE_REPLY_WORDS);
+*/
+enum drivelog_three {
+    DRIVELOG_THREE_REPLY_WORDS = 5,
+    DRIVELOG_THREE_OPS_WORDS = 24621 /* words of an op buffer that is always enough for a module: 3 * (8192 + 15) */
+};
 
 int64_t drivelog_open(const uint64_t *image, size_t image_words, uint64_t *cursor, size_t cursor_words, uint64_t *reply,
                       size_t reply_words);

@@ -21,6 +21,9 @@ const COUNT_RECORDS: u64 = 5;
 const ONE_RECORD: u64 = 6;
 const ALL_RECORDS: u64 = 7;
 const ALL_BY_LIST: u64 = 8;
+const RECOVER_ONE: u64 = 9;
+const RECOVER_THREE: u64 = 10;
+const REPAIR: u64 = 11;
 /// Release of the head, plus the number of released records behind it.
 const RELEASE: u64 = 1000;
 /// The same with an LSN that is not live: refused right behind the soundness test.
@@ -46,6 +49,8 @@ pub struct Programs<'a> {
     /// An append through the calls for C, and the same with the driver that stands on libpmem.
     pub append: Option<&'a Path>,
     pub append_pmem: Option<&'a Path>,
+    /// The recovery of three modules through the calls for C.
+    pub three: Option<&'a Path>,
 }
 
 pub enum Failure {
@@ -121,6 +126,9 @@ impl Case {
             ONE_RECORD => "kind, LSN and payload of one record",
             ALL_RECORDS => "number, then kind, LSN and payload of all",
             ALL_BY_LIST => "the list, then the payload of all",
+            RECOVER_ONE => "one module",
+            RECOVER_THREE => "three equal ones",
+            REPAIR => "three, one to repair",
             RELEASE..NOT_LIVE => "release",
             _ => "release of no live LSN",
         }
@@ -292,6 +300,7 @@ pub fn bench(programs: &Programs, rounds: usize, out: &mut impl Write) -> Result
         skipped("the calls for C", programs.calls, built, out)?;
     }
     boundary(programs, rounds, out)?;
+    three_modules(programs, rounds, out)?;
     on_a_module(programs, rounds, out)
 }
 
@@ -463,6 +472,34 @@ fn boundary(programs: &Programs, rounds: usize, out: &mut impl Write) -> Result<
         row.extend(bar(words / plain, if case.bytes == 64 { 1.3 } else { 1.6 }));
         row.extend([ns(by_value), ratio(words / by_value)]);
         row.extend(bar(words / by_value, 1.25));
+        table.row(row);
+    }
+    table.print(out)
+}
+
+/// The recovery of full images through the calls for C beside plain Rust: of one module, of three, and of three with a repair.
+fn three_modules(programs: &Programs, rounds: usize, out: &mut impl Write) -> Result<(), Failure> {
+    let Some(three) = programs.three.filter(|path| path.exists()) else {
+        let built = "it is built where target/lib/libdrivelog.a is, which `make lib` writes";
+        return skipped("the recovery of three modules", programs.three, built, out);
+    };
+    let pair = [Program::new(three), Program::new(programs.plain)];
+    let cases = [RECOVER_ONE, RECOVER_THREE, REPAIR].map(|job| {
+        let case = Case { job, bytes: full_image_length(FEW), live: FEW, words: LARGEST };
+        (case, &pair[..])
+    });
+    let mut table = Table::new(
+        "Recovery through the calls for C of full images of 8,192 words, 64 records of 991 bytes.",
+        &["recovered", "C ns", "plain Rust ns", "ratio", "bar", "", "to one module", "bar", ""],
+    );
+    let medians = medians(&cases, rounds)?;
+    for ((case, _), times) in cases.iter().zip(&medians) {
+        let (c, plain, of_one) = (times[0], times[1], times[0] / medians[0][0]);
+        let mut row = vec![case.call().to_string(), ns(c), ns(plain), ratio(c / plain)];
+        let no_bar = || [String::new(), String::new()];
+        row.extend(if case.job == RECOVER_ONE { no_bar() } else { bar(c / plain, 1.2) });
+        row.push(ratio(of_one));
+        row.extend(if case.job == RECOVER_THREE { bar(of_one, 3.3) } else { no_bar() });
         table.row(row);
     }
     table.print(out)

@@ -27,6 +27,11 @@ impl Device {
         Device { cells: cells.collect() }
     }
 
+    /// How many words it has.
+    pub fn words(&self) -> u64 {
+        self.cells.len() as u64
+    }
+
     pub fn carry_out(&mut self, op: Op) {
         match op {
             Op::Store { word, value } => self.cells[word as usize].stored.push(value),
@@ -56,5 +61,18 @@ impl Device {
             values
         };
         self.cells.iter().map(values).collect()
+    }
+
+    /// One of the images that a crash can leave. Of each word with values stored since its flush, `pick` is asked which one: it gets
+    /// the word and their number; 0 stands for the flushed value, and they follow in turn.
+    pub fn crash_image(&self, mut pick: impl FnMut(u64, usize) -> usize) -> Vec<u64> {
+        let value = |(word, cell): (u64, &Cell)| match cell.stored.len() {
+            0 => cell.flushed,
+            count => match pick(word, count) {
+                0 => cell.flushed,
+                number => cell.stored[number - 1],
+            },
+        };
+        (0..).zip(&self.cells).map(value).collect()
     }
 }

@@ -191,7 +191,7 @@ fn set_epochs(log: &mut Written, epochs: &[u64]) {
 }
 
 /// A log of a few records, some of them released.
-fn some_log(rng: &mut Rng) -> Written {
+pub(crate) fn some_log(rng: &mut Rng) -> Written {
     let count = rng.between(1, 12) as usize;
     let records = records(rng, count, 4);
     let spare = rng.below(30);
@@ -206,7 +206,7 @@ fn whole(rng: &mut Rng, least: usize, most: usize, released: u64) -> Vec<u8> {
 }
 
 /// 8,192 words, as many of them as can be in so many records alike.
-fn full_image(rng: &mut Rng, count: usize) -> Vec<u8> {
+pub(crate) fn full_image(rng: &mut Rng, count: usize) -> Vec<u8> {
     let one = |_| Record {
         kind: rng.between(1, MAX_KIND),
         mark: MARK_COMMITTED,
@@ -225,7 +225,7 @@ fn longest_payload(rng: &mut Rng) -> Vec<u8> {
 }
 
 /// The last record has the last LSN there is.
-fn last_lsns(rng: &mut Rng) -> Vec<u8> {
+pub(crate) fn last_lsns(rng: &mut Rng) -> Vec<u8> {
     let count = rng.between(1, 5);
     let records = records(rng, count as usize, 4);
     log_from(rng, LSN_LIMIT - count, &records, 3).bytes()
@@ -251,7 +251,7 @@ fn many(rng: &mut Rng) -> Written {
     log(rng, &records, 9)
 }
 
-fn too_many(rng: &mut Rng) -> Written {
+pub(crate) fn too_many(rng: &mut Rng) -> Written {
     let count = rng.between(TABLE_SIZE as u64 + 1, TABLE_SIZE as u64 + 6) as usize;
     let released = rng.pick(&[0, 1, 3]);
     let records = records(rng, count, released);
@@ -281,7 +281,7 @@ fn log_and_record(rng: &mut Rng) -> (Written, u64) {
 }
 
 /// Makes the check of the record that now stands here fit; its epoch stays.
-fn check_again(log: &mut Written, position: u64) {
+pub(crate) fn check_again(log: &mut Written, position: u64) {
     let Header { length, kind, .. } = Header::of_word(*log.word(position, 0));
     let lsn = *log.word(position, 1);
     let payload = log.ring.payload(&log.image, position, length.min(2 * MAX_LENGTH));
@@ -418,11 +418,11 @@ fn superline_too_low(rng: &mut Rng) -> Vec<u8> {
 
 // ---------------------------------------------------------------- superline
 
-fn superline_of(log: &Written) -> Superline {
+pub(crate) fn superline_of(log: &Written) -> Superline {
     Superline::read(&log.image, 1).expect("copy 1 is right")
 }
 
-fn set_superline(log: &mut Written, superline: Superline) {
+pub(crate) fn set_superline(log: &mut Written, superline: Superline) {
     let words = superline.words();
     log.image[16..16 + words.len()].copy_from_slice(&words);
 }

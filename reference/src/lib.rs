@@ -20,6 +20,7 @@ pub mod ops;
 pub mod query;
 pub mod refusal;
 pub mod state;
+pub mod three;
 
 // The same written for speed, to measure against.
 pub mod plain;
@@ -27,6 +28,7 @@ pub mod plain;
 // What a power failure does, and what must survive it.
 pub mod abstract_log;
 pub mod device;
+pub mod three_system;
 
 // Programs.
 pub mod bench;
@@ -34,6 +36,7 @@ pub mod c_calls;
 pub mod compare;
 pub mod cover;
 pub mod crash;
+pub mod crash_three;
 pub mod example;
 pub mod gen;
 pub mod images;
@@ -47,4 +50,6 @@ pub mod samples;
 pub mod script;
 pub mod shortcut;
 pub mod stored_script;
+pub mod three_calls;
 pub mod time;
+pub mod triples;

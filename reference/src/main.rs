@@ -5,6 +5,7 @@ use reference::c_calls::c_calls;
 use reference::compare::{compare, compare_samples};
 use reference::cover::Coverage;
 use reference::crash::{crash_bench, Program};
+use reference::crash_three::crash_three;
 use reference::example::{example, listing};
 use reference::gen;
 use reference::layout::OLD_TABLE_SIZE;
@@ -16,12 +17,14 @@ use reference::replay::replay;
 use reference::samples::full_image;
 use reference::shortcut::Shortcut;
 use reference::stored_script::stored_script;
+use reference::three_calls::three_calls;
+use reference::three_system::Variant;
 use reference::time::{list_times, load_times};
 use std::fs;
 use std::io::{self, BufWriter, Write};
 use std::path::{Path, PathBuf};
 use std::process::ExitCode;
-use std::time::Duration;
+use std::time::{Duration, Instant};
 
 const USAGE: &str = "\
 usage: reference example                 print the listing that the program example prints
@@ -35,6 +38,7 @@ usage: reference example                 print the listing that the program exam
        reference compare REPLAY LOGLIST SEED N
                                          compare two other programs with ours on N seeds
        reference c-calls DRIVER SEED N   compare the calls that a C program makes with ours, on N images
+       reference three PROGRAM SEED N    compare the recovery of three modules that a C program makes with ours
        reference logwhy                  say why the LSN behind the image on standard input is listed or not
        reference why LOGWHY SEED N       run another logwhy on images of N seeds, each with many LSNs
        reference logload                 write the image that the listing on standard input describes
@@ -44,11 +48,14 @@ usage: reference example                 print the listing that the program exam
        reference time PROGRAM...         how long each takes to list a full image
        reference time-load PROGRAM...    how long each takes to load the listing of a full image
        reference same-work PROVED PLAIN  whether two bench programs leave the same
-       reference bench PROVED PLAIN C_BENCH [PMEM] [--calls C_CALLS] [--append C_APPEND] [--append-pmem C_APPEND] [--rounds N]
+       reference bench PROVED PLAIN C_BENCH [PMEM] [--calls C_CALLS] [--append C_APPEND] [--append-pmem C_APPEND] [--three C_THREE] [--rounds N]
                                          how long the calls take, case by case
        reference cover SEED N            count what N scripts reach
        reference crash SECONDS [--program PATH] [--seed S] [--shortcut K]
                                          cut power at random and check what is left
+       reference crash-three SECONDS [--seed S] [--variant V]
+                                         the same with three modules that are absent, miss ops and lose power
+       reference crash-three-variants    the same with each rule broken on purpose: each has to be caught
 ";
 
 fn main() -> ExitCode {
@@ -145,6 +152,30 @@ fn run(args: &[&str]) -> io::Result<ExitCode> {
                 ExitCode::FAILURE
             });
         }
+        ["three", program, seed, count] => {
+            let report = three_calls(Path::new(program), parse(seed)?, parse(count)?)?;
+            if let Some((images, found)) = &report.difference {
+                writeln!(
+                    stdout,
+                    "seed {}, images {images}: line {} differs",
+                    found.seed, found.line
+                )?;
+                writeln!(stdout, "reference: {}\nprogram:   {}", found.ours, found.theirs)?;
+            }
+            writeln!(
+                stdout,
+                "three: {} triples, {} calls, {} differences",
+                report.triples,
+                report.calls,
+                report.difference.iter().count()
+            )?;
+            stdout.flush()?;
+            return Ok(if report.difference.is_none() {
+                ExitCode::SUCCESS
+            } else {
+                ExitCode::FAILURE
+            });
+        }
         ["logwhy"] => stdout.write_all(logwhy(&read_input(io::stdin().lock())?).as_bytes())?,
         ["why", program, seed, count] => {
             let report = compare_logwhy(Path::new(program), parse(seed)?, parse(count)?)?;
@@ -214,12 +245,14 @@ fn run(args: &[&str]) -> io::Result<ExitCode> {
                 }
                 _ => (None, options),
             };
-            let (mut calls, mut append, mut append_pmem, mut rounds) = (None, None, None, 31);
+            let (mut calls, mut append, mut append_pmem, mut three) = (None, None, None, None);
+            let mut rounds = 31;
             for option in options.chunks(2) {
                 match *option {
                     ["--calls", path] => calls = Some(Path::new(path)),
                     ["--append", path] => append = Some(Path::new(path)),
                     ["--append-pmem", path] => append_pmem = Some(Path::new(path)),
+                    ["--three", path] => three = Some(Path::new(path)),
                     ["--rounds", number] => rounds = parse(number)?,
                     _ => return Err(invalid(format!("not an option: {}", option.join(" ")))),
                 }
@@ -228,7 +261,8 @@ fn run(args: &[&str]) -> io::Result<ExitCode> {
                 return Err(invalid("not a good number: 0".to_string()));
             }
             let (proved, plain, crc) = (Path::new(proved), Path::new(plain), Path::new(crc));
-            let programs = Programs { proved, plain, crc, pmemlog, calls, append, append_pmem };
+            let programs =
+                Programs { proved, plain, crc, pmemlog, calls, append, append_pmem, three };
             let done = bench(&programs, rounds, &mut stdout);
             return no_difference(done, &mut stdout);
         }
@@ -242,6 +276,8 @@ fn run(args: &[&str]) -> io::Result<ExitCode> {
             stdout.write_all(coverage.report().as_bytes())?;
         }
         ["crash", seconds, options @ ..] => return crash(seconds, options),
+        ["crash-three", seconds, options @ ..] => return crash_in_three(seconds, options),
+        ["crash-three-variants"] => return each_variant(&mut stdout),
         _ => {
             eprint!("{USAGE}");
             return Ok(ExitCode::from(2));
@@ -297,6 +333,56 @@ fn crash(seconds: &str, options: &[&str]) -> io::Result<ExitCode> {
         report.failure.iter().count(),
     );
     Ok(if report.failure.is_none() { ExitCode::SUCCESS } else { ExitCode::FAILURE })
+}
+
+fn crash_in_three(seconds: &str, options: &[&str]) -> io::Result<ExitCode> {
+    let (mut seed, mut variant) = (1, None);
+    for option in options.chunks(2) {
+        match *option {
+            ["--seed", number] => seed = parse(number)?,
+            ["--variant", name] => variant = Some(three_variant(name)?),
+            _ => return Err(invalid(format!("not an option: {}", option.join(" ")))),
+        }
+    }
+    let report = crash_three(variant, seed, Duration::from_secs(parse(seconds)?));
+    if let Some(failure) = &report.failure {
+        println!("seed {}: {}", failure.seed, failure.what);
+        failure.story.iter().for_each(|event| println!("  {event}"));
+    }
+    println!(
+        "crash-three: {} histories, {} events, {} power failures, {} triples, {} recoveries, {} failures",
+        report.histories,
+        report.events,
+        report.power_failures,
+        report.triples,
+        report.recoveries,
+        report.failure.iter().count(),
+    );
+    Ok(if report.failure.is_none() { ExitCode::SUCCESS } else { ExitCode::FAILURE })
+}
+
+/// Each variant has to be caught within a minute.
+fn each_variant(out: &mut impl Write) -> io::Result<ExitCode> {
+    let mut caught = 0;
+    for (name, variant) in Variant::ALL {
+        let start = Instant::now();
+        let report = crash_three(Some(variant), 1, Duration::from_secs(60));
+        let seconds = start.elapsed().as_secs_f64();
+        let what = report.failure.as_ref().map_or("not caught", |failure| &failure.what);
+        let histories = report.histories;
+        writeln!(out, "{name}: {seconds:.2} s, {histories} histories: {what}")?;
+        out.flush()?;
+        caught += usize::from(report.failure.is_some());
+    }
+    let all = Variant::ALL.len();
+    writeln!(out, "crash-three-variants: {caught} of {all} caught")?;
+    out.flush()?;
+    Ok(if caught == all { ExitCode::SUCCESS } else { ExitCode::FAILURE })
+}
+
+fn three_variant(name: &str) -> io::Result<Variant> {
+    let names = || Variant::ALL.map(|(name, _)| name).join(", ");
+    Variant::named(name).ok_or_else(|| invalid(format!("the variants are {}", names())))
 }
 
 fn parse<T: std::str::FromStr>(text: &str) -> io::Result<T> {

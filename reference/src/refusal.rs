@@ -1,4 +1,4 @@
-//! The table "When a call declines", refusals 16 to 18 of document 02, and the tests that slips 4 and 8 have refusal 12 name.
+//! The table "When a call declines", refusals 16 to 19 of document 02, and the tests that slips 4 and 8 have refusal 12 name.
 
 /// Why a call declined. Its number and detail are those of the documents.
 #[derive(Clone, Copy, Debug, PartialEq, Eq)]
@@ -42,6 +42,8 @@ pub enum Refusal {
     BadLine,
     /// An LSN in a listing is not the next one.
     NotNext,
+    /// Of three modules' copies fewer than two are readable.
+    TooFewCopies,
 }
 
 impl Refusal {
@@ -65,6 +67,7 @@ impl Refusal {
             Refusal::NoRecord => 16,
             Refusal::BadLine => 17,
             Refusal::NotNext => 18,
+            Refusal::TooFewCopies => 19,
         }
     }
 

@@ -32,6 +32,7 @@ fn record(kind: u64, mark: u64, payload: &[u8]) -> Record {
 const EPOCH: u64 = 3;
 
 /// An image of so many words that holds these records from a head position and LSN on. Copy 1 of its superline is active.
+#[derive(Clone)]
 pub(crate) struct Written {
     pub(crate) image: Vec<u64>,
     pub(crate) ring: Ring,

@@ -11,6 +11,9 @@ use reference::rng::Rng;
 use reference::samples::{full_image, samples};
 use reference::script::{Command, Parsed};
 use reference::state::{Entry, Stage, State};
+use reference::three::{recover_three, Lent, MODULES};
+use reference::three_calls::{ask, Request};
+use reference::triples::{self, triple, Images};
 use reference::{gen, query, replay};
 use std::collections::BTreeSet;
 use std::fmt::Debug;
@@ -425,4 +428,41 @@ fn checks() {
 fn sizes() {
     assert_eq!(size_of::<plain::Entry>(), 12);
     assert_eq!(size_of::<plain::State>(), 8 * 8 + 256 * 12);
+}
+
+/// Three images and op buffers, lent as a request says.
+fn lend<'a>(
+    request: &Request,
+    images: &'a mut Images,
+    op_buffers: &'a mut Images,
+) -> [Lent<'a>; MODULES] {
+    let mut lent = images.iter_mut().zip(op_buffers);
+    std::array::from_fn(|i| {
+        let (image, op_buffer) = lent.next().unwrap();
+        Lent { image, op_buffer, present: request.is_present(i) }
+    })
+}
+
+#[test]
+fn three_modules() {
+    let mut met = BTreeSet::new();
+    for seed in 0..3 * triples::SORTS.len() as u64 {
+        let (name, images) = triple(seed);
+        for request in ask(seed, &images).requests {
+            let op_buffers = request.op_words.map(|words| vec![seed; words]);
+            let (mut clear_images, mut clear_ops) = (images.clone(), op_buffers.clone());
+            let clear = recover_three(&mut lend(&request, &mut clear_images, &mut clear_ops));
+            let (mut fast_images, mut fast_ops) = (images.clone(), op_buffers);
+            let mut modules = lend(&request, &mut fast_images, &mut fast_ops);
+            let fast = plain::recover_three(&mut modules);
+            assert_eq!(
+                clear.as_ref().map(|it| (it.chosen, plain_state(&it.state), it.op_counts)),
+                fast.as_ref().map(|it| (it.chosen, it.state.clone(), it.op_counts)),
+                "{name}"
+            );
+            assert!(clear_images == fast_images && clear_ops == fast_ops, "{name}");
+            met.insert(clear.map(|it| it.chosen).map_err(Refusal::number));
+        }
+    }
+    assert_eq!(met, BTreeSet::from([Ok(0), Ok(1), Ok(2), Err(1), Err(8), Err(15), Err(19)]));
 }

@@ -11,12 +11,14 @@ static bool texts()
 {
     const std::string none = drivelog_refusal_text(0);
     std::set<std::string> seen;
-    for (int64_t number = 1; number <= 16; number++) {
+    for (int64_t number = 1; number <= 19; number++) {
+        if (number == 17 || number == 18) // refusals of the program logload, which no call gives
+            continue;
         const std::string text = drivelog_refusal_text(number);
         if (text == none || text != drivelog_refusal_text(-number) || !seen.insert(text).second)
             return false;
     }
-    return none == drivelog_refusal_text(17) && none == drivelog_refusal_text(INT64_MIN) && none == drivelog_refusal_text(INT64_MAX);
+    return none == drivelog_refusal_text(17) && none == drivelog_refusal_text(20) && none == drivelog_refusal_text(INT64_MIN) && none == drivelog_refusal_text(INT64_MAX);
 }
 
 static bool version()
@@ -32,5 +34,8 @@ int main()
     bool all = drivelog_count(0, 0) == refused && drivelog_damage(0, 0) == refused && drivelog_kind(0, 0, 0) == refused && drivelog_lsn(0, 0, 0) == refused
         && drivelog_epoch(0, 0, 0) == refused && drivelog_payload(0, 0, 0, output, sizeof output) == refused && drivelog_list(0, 0, 0, 0) == refused
         && drivelog_payload_at(0, 0, 0, 0, output, sizeof output) == refused;
+    uint64_t reply[DRIVELOG_THREE_REPLY_WORDS];
+    all = all && drivelog_recover_three(0, 0, 0, 0, 0, 0, 0, 0, 7, 0, 0, 0, 0, 0, 0, reply, DRIVELOG_THREE_REPLY_WORDS) == refused
+        && drivelog_recover_three(0, 0, 0, 0, 0, 0, 0, 0, 7, 0, 0, 0, 0, 0, 0, reply, 4) == -DRIVELOG_OUTPUT_SHORT;
     return all && texts() && version() ? 0 : 1;
 }

@@ -1,10 +1,10 @@
-/* How much stack each call of include/drivelog.h needs: `stack MOST MOST_ON_WORDS MOST_ON_A_RECORD IMAGE` makes each of them in a thread
- * whose stack was painted before, and looks how far down the paint is gone. Those that read bytes go over the image in that file, the
- * others over a log of their own.
+/* How much stack each call of include/drivelog.h needs: `stack MOST MOST_ON_WORDS MOST_ON_A_RECORD MOST_ON_THREE IMAGE` makes each of
+ * them in a thread whose stack was painted before, and looks how far down the paint is gone. Those that read bytes go over the image in
+ * that file, the others over a log of their own.
  *
  * Standard output: a line a call, its name and the bytes. Status 1 if one that reads bytes needs more than MOST, one of reserve, copy,
- * complete and release more than MOST_ON_A_RECORD, or another one that works on words more than MOST_ON_WORDS, 2 if it could not be
- * tried. */
+ * complete and release more than MOST_ON_A_RECORD, the recovery of three more than MOST_ON_THREE, or another one that works on words
+ * more than MOST_ON_WORDS, 2 if it could not be tried. */
 
 #define _DEFAULT_SOURCE
 #include "drivelog.h"
@@ -50,6 +50,15 @@ static int64_t next(void) { return drivelog_next(LOG, cursor, DRIVELOG_CURSOR_WO
 static int64_t fetch(void) { return drivelog_fetch(LOG, 0, sizeof output, output, sizeof output, REPLY); }
 static int64_t release(void) { return drivelog_release(LENT, 1, REPLY); }
 static int64_t release_all(void) { return drivelog_release_all(LENT, REPLY); }
+
+/* The log on three modules of 8,192 words, of which the second and the third differ from the first. */
+static uint64_t others[2][DRIVELOG_MAX_IMAGE / 8], three_ops[3][DRIVELOG_THREE_OPS_WORDS], three_reply[DRIVELOG_THREE_REPLY_WORDS];
+static int64_t recover_three(void)
+{
+    return drivelog_recover_three(state, DRIVELOG_STATE_WORDS, LOG, others[0], DRIVELOG_MAX_IMAGE / 8, others[1], DRIVELOG_MAX_IMAGE / 8, 7,
+                                  three_ops[0], DRIVELOG_THREE_OPS_WORDS, three_ops[1], DRIVELOG_THREE_OPS_WORDS, three_ops[2],
+                                  DRIVELOG_THREE_OPS_WORDS, three_reply, DRIVELOG_THREE_REPLY_WORDS);
+}
 
 struct call {
     const char *name;
@@ -113,14 +122,19 @@ int main(int argc, char **argv)
     struct call on_words[] = {{"format", format, 0}, {"reserve", reserve, 0}, {"copy", copy, 0}, {"complete", complete, 0},
                               {"force", force, 0}, {"recover", recover, 0}, {"open", open, 0}, {"next", next, 0}, {"fetch", fetch, 0},
                               {"release", release, 0}, {"release_all", release_all, 0}};
-    FILE *file = argc == 5 ? fopen(argv[4], "rb") : NULL;
+    struct call on_three[] = {{"recover_three", recover_three, 0}};
+    FILE *file = argc == 6 ? fopen(argv[5], "rb") : NULL;
     if (file == NULL) {
-        fputs("usage: stack MOST MOST_ON_WORDS MOST_ON_A_RECORD IMAGE\n", stderr);
+        fputs("usage: stack MOST MOST_ON_WORDS MOST_ON_A_RECORD MOST_ON_THREE IMAGE\n", stderr);
         return 2;
     }
     bytes = fread(image, 1, sizeof image, file);
     fclose(file);
     size_t most_on_a_record = strtoul(argv[3], NULL, 10);
     int status = tried(on_bytes, sizeof on_bytes / sizeof on_bytes[0], strtoul(argv[1], NULL, 10), most_on_a_record, 0);
-    return tried(on_words, sizeof on_words / sizeof on_words[0], strtoul(argv[2], NULL, 10), most_on_a_record, status);
+    status = tried(on_words, sizeof on_words / sizeof on_words[0], strtoul(argv[2], NULL, 10), most_on_a_record, status);
+    memcpy(others[0], log_words, sizeof others[0]);
+    memcpy(others[1], log_words, sizeof others[1]);
+    others[0][1] = others[1][2] = 1;
+    return tried(on_three, 1, strtoul(argv[4], NULL, 10), most_on_a_record, status);
 }

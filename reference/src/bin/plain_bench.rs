@@ -2,12 +2,13 @@
 //! microseconds of CPU time that the timed part took and a CRC-32 of what it left. Bad input: nothing.
 //!
 //! Jobs: 1 append, 2 CRC-32, 3 recover, 4 list. Jobs 5 to 7 read an image of so many words behind the five numbers and get, in one pass,
-//! what tests/bench/calls.c gets call by call: 5 the number of listed records, 6 the last of them, 7 all of them. Job 1000 + k is the
-//! release of the head with k released records behind it, 2000 + k one that is refused behind the soundness test.
+//! what tests/bench/calls.c gets call by call: 5 the number of listed records, 6 the last of them, 7 all of them. Jobs 9 to 11 recover it as
+//! tests/bench/three.c does: 9 alone, 10 with two copies of it, 11 with one of the copies to repair. Job 1000 + k is the release of the head with k released records behind it, 2000 + k one that is refused behind the soundness test.
 
 use reference::calls::Done;
-use reference::layout::TABLE_SIZE;
+use reference::layout::{words_of_bytes, TABLE_SIZE};
 use reference::plain::{self, State};
+use reference::three::{Lent, MODULES};
 use std::hint::black_box;
 use std::io::{self, Read};
 
@@ -86,10 +87,11 @@ fn main() -> io::Result<()> {
     }
     let (numbers, _) = input.as_chunks();
     let [job, bytes, live, count, words] = std::array::from_fn(|i| u64::from_le_bytes(numbers[i]));
-    if (5..=8).contains(&job) {
+    if (5..=11).contains(&job) {
         let mut image = Vec::new();
         io::stdin().lock().take(8 * words).read_to_end(&mut image)?;
-        if let Some((time, digest)) = query(job, count, &image) {
+        let done = if job < 9 { query(job, count, &image) } else { recovery(job, count, &image) };
+        if let Some((time, digest)) = done {
             println!("{time} {digest}");
         }
         return Ok(());
@@ -125,6 +127,32 @@ fn query(job: u64, count: u64, image: &[u8]) -> Option<(i64, u64)> {
         }
     });
     Some((time, if job == 5 { records } else { plain::crc32_of_bytes(&found) }))
+}
+
+/// The same for a job that recovers the image, alone or on three modules.
+fn recovery(job: u64, count: u64, image: &[u8]) -> Option<(i64, u64)> {
+    let image = words_of_bytes(image)?;
+    let mut images = [image.clone(), image.clone(), image];
+    let mut op_buffers = [(); MODULES].map(|()| vec![0; 24_621]);
+    let mut granted = 0;
+    let time = time(|| {
+        for _ in 0..count {
+            let [a, b, c] = &mut images;
+            if job == 9 {
+                granted += u64::from(black_box(plain::recover(c, &mut op_buffers[2])).is_ok());
+                continue;
+            }
+            // An unused word.
+            c[23] ^= u64::from(job == 11);
+            let mut op_buffers = op_buffers.iter_mut();
+            let mut modules = [a, b, c].map(|image| {
+                let op_buffer = op_buffers.next().expect("one for each module");
+                Lent { image, op_buffer, present: true }
+            });
+            granted += u64::from(black_box(plain::recover_three(&mut modules)).is_ok());
+        }
+    });
+    (granted == count).then(|| (time, plain::crc32_of_words(&images[2])))
 }
 
 /// The time and the digest of a job, if there is such a job.

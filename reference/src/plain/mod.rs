@@ -12,6 +12,7 @@ mod load;
 mod query;
 mod scan;
 mod state;
+mod three;
 
 pub use calls::{complete, copy, force, format, recover, release, reserve};
 pub use crc::{crc32_of_bytes, crc32_of_words};
@@ -19,6 +20,7 @@ pub use list::list;
 pub use load::load;
 pub use query::{listed, Listed};
 pub use state::{Entry, Stage, State};
+pub use three::{recover_three, RecoveredThree};
 
 /// `count` items of a ring from `start` on: those up to its end, and those that go round.
 fn run<T>(ring: &[T], start: usize, count: usize) -> (&[T], &[T]) {
