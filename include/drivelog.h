@@ -463,6 +463,9 @@ int64_t drivelog_recover_three(uint64_t *state, size_t state_words, uint64_t *im
      Returns the number of the chosen copy, 0 to 2, or -DRIVELOG_IMAGE_SIZE (unequal lengths too), -DRIVELOG_UNSOUND (state_words is
    not DRIVELOG_STATE_WORDS), -DRIVELOG_TOO_FEW_COPIES, -DRIVELOG_NUMBERS_SPENT or -DRIVELOG_OPS_SHORT.
 
+     It takes at most 32,768 bytes of stack (32 KB), and the time of a drivelog_recover for each present module, with a pass more over the
+   words of one that differs.
+
      Example, with module 1 absent:
 
          uint64_t room = DRIVELOG_THREE_OPS_WORDS, reply[DRIVELOG_THREE_REPLY_WORDS];
