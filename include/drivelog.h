@@ -265,7 +265,7 @@ int64_t drivelog_payload_at(const uint8_t *image, size_t bytes, uint64_t pos, ui
  * type. Where the count is 0 the pointer is not followed and may be null. What is written may overlap nothing else that is lent to
  * the same call. A call keeps nothing and allocates nothing, so calls with different words may run in several threads at once.
  *
- * Stack: a call takes at most 20,480 bytes (20 KB); drivelog_reserve, drivelog_copy, drivelog_complete and drivelog_release take at most
+ * Stack: a call takes at most 20,480 bytes (20 KB), the recovery of three 32,768; reserve, copy, complete and release take at most
  * 1,024.
  *
  * Time: every call tests the whole state, so that it grows with the live records. An append, that is reserve, copy, complete, force at
