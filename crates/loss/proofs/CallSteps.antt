@@ -1,4 +1,4 @@
--- What is kept beside the invariant of the crash theorem, and that each call keeps it.
+-- What holds beside the invariant of the crash theorem in a disciplined run, and that each call keeps it.
 -- Cites specs/LossBound.antt, MissingLaws.antt; crates/journal/proofs/DeferLaws.antt.
 use mathlib.Core.Path.{_≡_, refl, ap, _∙_, sym, subst}
 use mathlib.Core.Logic.{_≢_}
@@ -18,7 +18,7 @@ use Rattle.refusal.specs.declared.Why.{Why}
 use Rattle.refusal.proofs.TestLaws.{AllPass, Decided, passed, failed, decided}
 use Rattle.state.specs.declared.State.{State}
 use Rattle.state.specs.declared.Stage.{Stage}
-use Rattle.state.specs.Table.{entryIn, entryOf, isOpen, isCommitted, isReleased}
+use Rattle.state.specs.Table.{tableSize, entryIn, entryOf, isOpen, isCommitted, isReleased}
 use Rattle.state.proofs.AndLaws.{both}
 use Rattle.state.proofs.TableLaws.{entry-other, entry-same}
 use Rattle.journal.specs.AbstractLog.{Promise, AbstractLog, change, freshPromise, withBytes, asComplete, asDurable, asBegun, feedGranted, feed}
@@ -32,25 +32,29 @@ use Rattle.journal.specs.RunLog.{RunLog}
 use Rattle.journal.proofs.DeferLaws.{deferred-near}
 use Rattle.journal.proofs.Invariant.{Dates, StageOk, is-committed, is-released, is-opened, is-complete, Agrees, Inv}
 use Rattle.journal.proofs.TableRuns.{commit-other, freed-other, held-range, held-skipped}
-use Rattle.loss.specs.LossBound.{sinceReply, Turn, free, opened, completed, turnForced, turnCompleted, turnReply}
+use Rattle.loss.specs.LossBound.{sinceReply, Turn, free, opened, completed, isForced, turnForced, turnCompleted, turnReply}
 use Rattle.loss.proofs.MissingLaws.{Has, first, later, Falls, falls-has, falls-up, Unbegun, Durable, LogOk}
 
--- ---------------------------------------------------------------- what is kept
+-- ---------------------------------------------------------------- what holds between calls
+-- a record that is not yet forced with F is one more than F allows
 abbrev pub slack : Turn → ℕ
 slack free = 0
 slack (opened k) = 1
 slack (completed k) = 1
 
+-- it is the newest: the next LSN follows it
 abbrev pub Last : Turn → ℕ → Type 0
 Last free n = Unit {0}
 Last (opened k) n = suc k ≡ n
 Last (completed k) n = suc k ≡ n
 
+-- those completed are below this LSN
 abbrev pub limit : Turn → ℕ → ℕ
 limit free n = n
 limit (opened k) n = k
 limit (completed k) n = n
 
+-- while a state is held. c is its committed LSN; above it no record but the newest is open, and no release is begun
 pub record HeldOk (F c : ℕ) (log : AbstractLog) (st : State) (ks : List ℕ) (t : Turn) : Type 0 where
   pub committed : st .«committed_lsn» ≡ c
   pub near : st .«next_lsn» ≤ c + F + slack t
@@ -59,12 +63,13 @@ pub record HeldOk (F c : ℕ) (log : AbstractLog) (st : State) (ks : List ℕ) (
   pub closed : (j : ℕ) → c < j → j < st .«next_lsn» → isOpen ((entryOf st j) .stage) ≡ true → t ≡ opened j
   pub unbegun : (j : ℕ) → c < j → j < st .«next_lsn» → Unbegun log j
 
+-- a power failure takes the state: c stays as a number, and what the abstract log says by it
 pub record LossOf (F : ℕ) (log : AbstractLog) (st : State) (ks : List ℕ) (t : Turn) : Type 0 where
   pub c : ℕ
   pub known : LogOk F c log ks
   pub held : 0 < st .area → HeldOk F c log st ks t
 
--- all that a call owes: behind it, and where it is cut after n ops
+-- all that a call owes: after it, and where power fails after n of its ops
 pub record Steps (F c : ℕ) (log : AbstractLog) (ks : List ℕ) (t : Turn) (x : Call) (o : Effect) : Type 0 where
   pub whole : LossOf F (feed x (o .reply) (length (o .ops)) (length (o .ops)) log) (o .state)
       (sinceReply true x (o .reply) ks) (turnReply F x (o .reply) t)
@@ -136,7 +141,7 @@ free-opened h = let z : _≡_ {A = ℕ} 0 1 = cc in omega arith
 completed-opened : {j k : ℕ} → completed k ≡ opened j → ⊥
 completed-opened h = let z : _≡_ {A = ℕ} 0 1 = cc in omega arith
 
--- a call that leaves next LSN, committed LSN, and the entries behind that
+-- a call that leaves the next LSN, the committed LSN, and the entries above that
 same-held : {F c : ℕ} {log log′ : AbstractLog} {st st′ : State} {ks : List ℕ} {t : Turn} → HeldOk F c log st ks t
     → st′ .«next_lsn» ≡ st .«next_lsn» → st′ .«committed_lsn» ≡ st .«committed_lsn»
     → ((j : ℕ) → c < j → j < st .«next_lsn» → (entryOf st′ j) .stage ≡ (entryOf st j) .stage)
@@ -162,35 +167,43 @@ committed-below (is-released h b) o = h
 committed-below (is-opened h) o = absurd (false≢true o)
 committed-below (is-complete h c x n) o = absurd (false≢true o)
 
-unreleased-above : {e : Promise} {d : Dates} {k m x : ℕ} {g : Stage} → StageOk e d k m x g → isReleased g ≡ true → k < m
-unreleased-above (is-committed h) o = h
-unreleased-above (is-released h b) o = h
-unreleased-above (is-opened h) o = absurd (false≢true o)
-unreleased-above (is-complete h c x n) o = absurd (false≢true o)
+released-below : {e : Promise} {d : Dates} {k m x : ℕ} {g : Stage} → StageOk e d k m x g → isReleased g ≡ true → k < m
+released-below (is-committed h) o = h
+released-below (is-released h b) o = h
+released-below (is-opened h) o = absurd (false≢true o)
+released-below (is-complete h c x n) o = absurd (false≢true o)
+
+-- the force that ends a turn is that of the record last completed, and with F
+forced-so : (F k frequency : ℕ) (t : Turn) → isForced F k frequency t ≡ true → (t ≡ completed k) × (frequency ≡ F)
+forced-so F k frequency free e = absurd (false≢true e)
+forced-so F k frequency (opened j) e = absurd (false≢true e)
+forced-so F k frequency (completed j) e =
+    let p = both (eqb k j) (eqb frequency F) e in
+    (ap completed (sym (eqb-true k j (p .0))), eqb-true frequency F (p .1))
 
 -- the turn after a force that is granted
 forced-held : (F c : ℕ) (log : AbstractLog) (st : State) (ks : List ℕ) (k frequency : ℕ) (t : Turn)
     → HeldOk F c log st ks t → (suc k ≡ st .«next_lsn» → frequency ≡ F → st .«next_lsn» ≤ c + F)
     → HeldOk F c log st ks (turnForced F k frequency t)
-forced-held F c log st ks k frequency free h ready = h
-forced-held F c log st ks k frequency (opened j) h ready = h
-forced-held F c log st ks k frequency (completed j) h ready = go (eqb k j && eqb frequency F) refl
+forced-held F c log st ks k frequency t h ready = go (isForced F k frequency t) refl
   where
-    go : (x : Bool) → (eqb k j && eqb frequency F) ≡ x → HeldOk F c log st ks (cond x free (completed j))
+    ended : HeldOk F c log st ks (completed k) → frequency ≡ F → HeldOk F c log st ks free
+    ended h e = record {
+      committed = h .committed;
+      near = let n = ready (h .last) e in omega arith;
+      last = tt;
+      falls = h .falls;
+      closed = λ i a l o. absurd (completed-opened (h .closed i a l o));
+      unbegun = h .unbegun;
+    }
+
+    go : (x : Bool) → isForced F k frequency t ≡ x → HeldOk F c log st ks (cond x free t)
     go false e = h
     go true e =
-        let p = both _ _ e in
-        let kj = eqb-true k j (p .0) in
-        record {
-          committed = h .committed;
-          near = let n = ready (ap suc kj ∙ h .last) (eqb-true frequency F (p .1)) in omega arith;
-          last = tt;
-          falls = h .falls;
-          closed = λ i a l o. absurd (completed-opened (h .closed i a l o));
-          unbegun = h .unbegun;
-        }
+        let p = forced-so F k frequency t e in
+        ended (subst (λ (x : Turn). HeldOk F c log st ks x) (p .0) h) (p .1)
 
--- a recovery that succeeds uncut: all is committed, and nothing completed since. The same state after format.
+-- after a recovery that succeeds uncut all is committed, and nothing completed since; after format too
 pub started : (F : ℕ) → 1 ≤ F → (log : AbstractLog) (st : State) → st .«committed_lsn» ≡ st .«next_lsn» - 1
     → LossOf F log st [] free
 started F some-F log st e = record {
@@ -225,7 +238,7 @@ module _ (F : ℕ) (some-F : 1 ≤ F) (s : System) {ran : RunLog} (i : Inv s ran
   m = s .state .«committed_lsn»
 
   -- the lower and upper ends of what is live
-  spans : (s .state .«head_lsn» ≤ suc m) × (suc m ≤ q) × (q ≤ s .state .«head_lsn» + 256)
+  spans : (s .state .«head_lsn» ≤ suc m) × (suc m ≤ q) × (q ≤ s .state .«head_lsn» + tableSize)
   spans =
       let a = ag .«head_lsn» in
       let b = ag .«committed_lsn» in
@@ -236,7 +249,7 @@ module _ (F : ℕ) (some-F : 1 ≤ F) (s : System) {ran : RunLog} (i : Inv s ran
 
   -- -------------------------------------------------------------- reserve
   module _ (kind len : ℕ) (c : ℕ) (b : LogOk F c (s .log) ks) (h : HeldOk F c (s .log) (s .state) ks free)
-      (spare : s .state .«next_lsn» < s .state .«head_lsn» + 256) where
+      (spare : s .state .«next_lsn» < s .state .«head_lsn» + tableSize) where
     abbrev log′ : AbstractLog
     log′ = λ j. cond (eqb j (s .state .«next_lsn»)) (some (freshPromise kind len)) (s .log j)
 
@@ -352,16 +365,17 @@ module _ (F : ℕ) (some-F : 1 ≤ F) (s : System) {ran : RunLog} (i : Inv s ran
       unfolding completeState
       entry-shut = rw (entry-same (s .state .table) k _ (ag .table))
 
-      held-completed : HeldOk F c logC (completeState st k) (k ∷ ks) (completed k)
+      -- it is complete and not yet forced: so is one more than F allows
+      held-completed : HeldOk F c logC (completeState st k) (k ∷ ks) (turnCompleted k t)
       unfolding completeState
-      held-completed = record {
+      held-completed = rw (turn, eq-eqb k k refl) (record {
         committed = h .committed;
-        near = h′ .near;
+        near = let n = h′ .near in omega arith;
         last = h′ .last;
         falls = (high, h′ .falls);
         closed = λ j a l o. absurd (shut j a l o (ℕ-discrete j k));
         unbegun = λ j a l. unbegunC j (h .unbegun j a l);
-      }
+      })
         where
           shut : (j : ℕ) → c < j → j < q → isOpen ((entryOf (completeState (s .state) k) j) .stage) ≡ true → Dec (j ≡ k)
               → ⊥
@@ -369,13 +383,10 @@ module _ (F : ℕ) (some-F : 1 ≤ F) (s : System) {ran : RunLog} (i : Inv s ran
               (sym o ∙ ap (λ (y : ℕ). isOpen ((entryOf (completeState (s .state) k) y) .stage)) e ∙ entry-shut)
           shut j a l o (no n) = n (sym (opened-inj (sym turn ∙ h .closed j a l (rw (entry-k j a l n) at o))))
 
-      turn-is : turnCompleted k t ≡ completed k
-      turn-is = rw (turn, eq-eqb k k refl)
-
       pub steps-complete : (os : List Op) → Steps F c log ks t (complete k) (effect done (completeState st k) os)
       unfolding feed feedGranted
       steps-complete os = record {
-        whole = record { c = c; known = log-completed; held = λ a. rw turn-is held-completed };
+        whole = record { c = c; known = log-completed; held = λ a. held-completed };
         crashed = λ n. log-completed;
       }
 
@@ -412,14 +423,14 @@ module _ (F : ℕ) (some-F : 1 ≤ F) (s : System) {ran : RunLog} (i : Inv s ran
           let n = not-above in
           entry-other (s .state .table) k j _ (omega arith) (omega arith) (omega arith)
 
-      -- the new head is not behind what is not committed
+      -- the new head is at most the first that is not committed
       head-below : (j : ℕ) → c < j → j < q → newHead (s .state) ≤ j
       head-below j a l = go (decLe (newHead (s .state)) j)
         where
           go : Dec (newHead (s .state) ≤ j) → newHead (s .state) ≤ j
           go (yes y) = y
           go (no n) = absurd (let p = spans in let e = h .committed in let k′ = not-above in
-              let z = unreleased-above ((ag .records j (omega (arith, ag .«head_lsn»)) l) .stage)
+              let z = released-below ((ag .records j (omega (arith, ag .«head_lsn»)) l) .stage)
               (held-skipped (s .state) (suc (s .state .«head_lsn»)) (q - suc (s .state .«head_lsn»)) j (omega arith)
               (omega arith)) in
               omega (arith, ag .«committed_lsn»))

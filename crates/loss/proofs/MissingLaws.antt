@@ -51,18 +51,15 @@ module _ (s : System) where
   none-missing [] h = refl
   none-missing (k ∷ ks) h = rw (h k first) (none-missing ks (λ j x. h j (later x)))
 
-  record Newest (n : ℕ) (ks : List ℕ) : Type 0 where
-    few : length (missing s ks) ≤ n
-    newest : missing s ks ≡ take (length (missing s ks)) ks
-
+  -- those of the list from t on are missing, and those below t are not
   newest-missing : (t b : ℕ) (ks : List ℕ) → Falls b ks → ((k : ℕ) → Has k ks → t ≤ k → isMissing s k ≡ true)
-      → ((k : ℕ) → Has k ks → k < t → isMissing s k ≡ false) → Newest (b - t) ks
+      → ((k : ℕ) → Has k ks → k < t → isMissing s k ≡ false) → LosesAtMost (b - t) s ks
   unfolding missing
   newest-missing t b [] f above below = record { few = omega arith; newest = refl }
   newest-missing t b (k ∷ ks) f above below =
       go (newest-missing t k ks (f .1) (λ j x. above j (later x)) (λ j x. below j (later x))) (decLe t k)
     where
-      go : Newest (k - t) ks → Dec (t ≤ k) → Newest (b - t) (k ∷ ks)
+      go : LosesAtMost (k - t) s ks → Dec (t ≤ k) → LosesAtMost (b - t) s (k ∷ ks)
       go ih (yes l) =
           let e : missing s (k ∷ ks) ≡ k ∷ missing s ks = rw (above k first l) in
           record {
@@ -105,7 +102,7 @@ pub record Durable (log : AbstractLog) (k : ℕ) : Type 0 where
   pub is : log k ≡ some promise
   pub durable : promise .durable ≡ true
 
--- c: the LSN up to which all are durable
+-- c: the LSN up to which all of the list are durable; those above it are at most F, with no release begun
 pub record LogOk (F c : ℕ) (log : AbstractLog) (ks : List ℕ) : Type 0 where
   pub falls : Falls (suc (c + F)) ks
   pub low : (k : ℕ) → Has k ks → k ≤ c → Durable log k
