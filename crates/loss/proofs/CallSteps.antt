@@ -499,10 +499,6 @@ module _ (F : ℕ) (some-F : 1 ≤ F) (s : System) {ran : RunLog} (i : Inv s ran
           stays true j = change-durable (λ j. leb j k) asDurable (s .log) j (λ e d. refl)
           stays false j = λ w. w
 
-      -- it is free again, if this is the force of the record last completed
-      abbrev Ready : ℕ → Type 0
-      Ready d = suc k ≡ s .state .«next_lsn» → frequency ≡ F → s .state .«next_lsn» ≤ d + F
-
       -- an LSN that is committed
       pub steps-durable : k ≤ s .state .«committed_lsn» → Steps F c log ks t (force k frequency) (effect durable st [])
       unfolding feed feedGranted logF
