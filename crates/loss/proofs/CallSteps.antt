@@ -18,7 +18,7 @@ use Rattle.refusal.specs.declared.Why.{Why}
 use Rattle.refusal.proofs.TestLaws.{AllPass, Decided, passed, failed, decided}
 use Rattle.state.specs.declared.State.{State}
 use Rattle.state.specs.declared.Stage.{Stage}
-use Rattle.state.specs.Table.{tableSize, entryIn, entryOf, isOpen, isCommitted, isReleased}
+use Rattle.state.specs.Table.{tableSize, entryIn, entryOf, isOpen, isCommitted}
 use Rattle.state.proofs.AndLaws.{both}
 use Rattle.state.proofs.TableLaws.{entry-other, entry-same}
 use Rattle.journal.specs.AbstractLog.{Promise, AbstractLog, change, freshPromise, withBytes, asComplete, asDurable, asBegun, feedGranted, feed}
@@ -30,7 +30,9 @@ use Rattle.journal.specs.Force.{forceState, isDeferred}
 use Rattle.journal.specs.Release.{newHead, headAt, markReleased, releaseState}
 use Rattle.journal.specs.RunLog.{RunLog}
 use Rattle.journal.proofs.DeferLaws.{deferred-near}
-use Rattle.journal.proofs.Invariant.{Dates, StageOk, is-committed, is-released, is-opened, is-complete, Agrees, Inv}
+use Rattle.journal.proofs.CrashCopyComplete.{open-is}
+use Rattle.journal.proofs.CrashRelease.{committed-ok, released-ok}
+use Rattle.journal.proofs.Invariant.{Agrees, Inv}
 use Rattle.journal.proofs.TableRuns.{commit-other, freed-other, held-range, held-skipped}
 use Rattle.loss.specs.LossBound.{sinceReply, Turn, free, opened, completed, isForced, turnForced, turnCompleted, turnReply}
 use Rattle.loss.proofs.MissingLaws.{Has, first, later, Falls, falls-has, falls-up, Unbegun, Durable, LogOk}
@@ -154,24 +156,6 @@ same-held {st = st} {ks = ks} {t} h n m es us = record {
   closed = λ j a b o. h .closed j a (rw n at b) (sym (ap (λ (g : Stage). isOpen g) (es j a (rw n at b))) ∙ o);
   unbegun = λ j a b. us j a (rw n at b) (h .unbegun j a (rw n at b));
 }
-
-open-above : {e : Promise} {d : Dates} {k m x : ℕ} {g : Stage} → StageOk e d k m x g → isOpen g ≡ true → m ≤ k
-open-above (is-committed h) o = absurd (false≢true o)
-open-above (is-released h b) o = absurd (false≢true o)
-open-above (is-opened h) o = h
-open-above (is-complete h c x n) o = h
-
-committed-below : {e : Promise} {d : Dates} {k m x : ℕ} {g : Stage} → StageOk e d k m x g → isCommitted g ≡ true → k < m
-committed-below (is-committed h) o = h
-committed-below (is-released h b) o = h
-committed-below (is-opened h) o = absurd (false≢true o)
-committed-below (is-complete h c x n) o = absurd (false≢true o)
-
-released-below : {e : Promise} {d : Dates} {k m x : ℕ} {g : Stage} → StageOk e d k m x g → isReleased g ≡ true → k < m
-released-below (is-committed h) o = h
-released-below (is-released h b) o = h
-released-below (is-opened h) o = absurd (false≢true o)
-released-below (is-complete h c x n) o = absurd (false≢true o)
 
 -- the force that ends a turn is that of the record last completed, and with F
 forced-so : (F k frequency : ℕ) (t : Turn) → isForced F k frequency t ≡ true → (t ≡ completed k) × (frequency ≡ F)
@@ -324,7 +308,7 @@ module _ (F : ℕ) (some-F : 1 ≤ F) (s : System) {ran : RunLog} (i : Inv s ran
         (is-open : isOpen ((entryOf (s .state) k) .stage) ≡ true) where
       above : c < k
       above =
-          let a = open-above ((ag .records k (omega (arith, ag .«head_lsn»)) high) .stage) is-open in
+          let a = open-is ((ag .records k (omega (arith, ag .«head_lsn»)) high) .stage) is-open .0 in
           omega (arith, ag .«committed_lsn», h .committed)
 
       turn : t ≡ opened k
@@ -395,7 +379,7 @@ module _ (F : ℕ) (some-F : 1 ≤ F) (s : System) {ran : RunLog} (i : Inv s ran
         (is-committed : isCommitted ((entryOf (s .state) k) .stage) ≡ true) where
       not-above : k ≤ c
       not-above =
-          let a = committed-below ((ag .records k (omega (arith, ag .«head_lsn»)) high) .stage) is-committed in
+          let a = committed-ok ((ag .records k (omega (arith, ag .«head_lsn»)) high) .stage) is-committed in
           omega (arith, ag .«committed_lsn», h .committed)
 
       logR : Bool → AbstractLog
@@ -430,9 +414,9 @@ module _ (F : ℕ) (some-F : 1 ≤ F) (s : System) {ran : RunLog} (i : Inv s ran
           go : Dec (newHead (s .state) ≤ j) → newHead (s .state) ≤ j
           go (yes y) = y
           go (no n) = absurd (let p = spans in let e = h .committed in let k′ = not-above in
-              let z = released-below ((ag .records j (omega (arith, ag .«head_lsn»)) l) .stage)
+              let z = released-ok ((ag .records j (omega (arith, ag .«head_lsn»)) l) .stage)
               (held-skipped (s .state) (suc (s .state .«head_lsn»)) (q - suc (s .state .«head_lsn»)) j (omega arith)
-              (omega arith)) in
+              (omega arith)) .0 in
               omega (arith, ag .«committed_lsn»))
 
       moved : (j : ℕ) → c < j → j < q
@@ -514,10 +498,6 @@ module _ (F : ℕ) (some-F : 1 ≤ F) (s : System) {ran : RunLog} (i : Inv s ran
               → Durable (cond x (change (λ j. leb j k) asDurable (s .log)) (s .log)) j
           stays true j = change-durable (λ j. leb j k) asDurable (s .log) j (λ e d. refl)
           stays false j = λ w. w
-
-      -- it is free again, if this is the force of the record last completed
-      abbrev Ready : ℕ → Type 0
-      Ready d = suc k ≡ s .state .«next_lsn» → frequency ≡ F → s .state .«next_lsn» ≤ d + F
 
       -- an LSN that is committed
       pub steps-durable : k ≤ s .state .«committed_lsn» → Steps F c log ks t (force k frequency) (effect durable st [])

@@ -18,11 +18,11 @@ use Rattle.scan.specs.Listed.{Among, here, there}
 use Rattle.scan.proofs.AmongLaws.{listed-found}
 use Rattle.journal.specs.AbstractLog.{Promise, AbstractLog}
 use Rattle.journal.specs.CrashSafe.{System}
-use Rattle.journal.specs.RunLog.{Note, RunLog}
+use Rattle.journal.specs.RunLog.{RunLog}
 use Rattle.journal.proofs.Calm.{Frame, calm}
 use Rattle.journal.proofs.Invariant.{Inv, inv-recovers}
 use Rattle.journal.proofs.NextRecovery.{series-listed, point-ok, the-scan, scan-all}
-use Rattle.journal.proofs.ScanImages.{Series, more, series-le}
+use Rattle.journal.proofs.RunTheorem.{series-noted}
 use Rattle.journal.proofs.Zones.{Allowed}
 use Rattle.loss.specs.LossBound.{lists, isMissing, missing, LosesAtMost}
 
@@ -84,11 +84,6 @@ lists-no : (k : ℕ) (rs : List Found) → ((r : Found) → Among r rs → r .ls
 lists-no k [] h = refl
 lists-no k (x ∷ rs) h = rw (ne-eqb (x .lsn) k (h x here)) (lists-no k rs (λ r m. h r (there m)))
 
-series-below : {b : AbstractLog} {x : ℕ → Note} {img : List ℕ} {c k j : ℕ} {rs : List Found} (r : Found)
-    → Series b x img c k j rs → Among r rs → r .lsn < j
-series-below r (more g rest) here = omega (arith, g .lsn, series-le rest)
-series-below r (more g rest) (there m) = series-below r rest m
-
 -- ---------------------------------------------------------------- what the abstract log says of a falling list
 -- an LSN is there, with no release begun
 pub record Unbegun (log : AbstractLog) (k : ℕ) : Type 0 where
@@ -138,7 +133,7 @@ module _ (s : System) {ran : RunLog} (i : Inv s ran) where
       let w = the-scan (s .log) (s .image) (calm fr) (i .quiet .zoned) (i .quiet .size) ob in
       let e = scan-all (s .log) (s .image) (calm fr) (i .quiet .zoned) (i .quiet .size) ob in
       lists-no k rs
-      (λ r m q. let a = series-below r (w .series) (listed-found r (w .items) (rw e at m) .0) in omega arith)
+      (λ r m q. let a = series-noted r (w .series) (listed-found r (w .items) (rw e at m) .0) .high in omega arith)
 
   lists-durable : (k : ℕ) (e : Promise) → s .log k ≡ some e → e .durable ≡ true → e .begun ≡ false → lists k rs ≡ true
   lists-durable k e is d nb =

@@ -39,7 +39,7 @@ use Rattle.journal.specs.Stores.{stores, flushRing, superlineOps}
 use Rattle.loss.specs.LossBound.{sinceAfter, since, Turn, free, turnAfter, Disciplined, DisciplinedFrom, missing, Reached}
 
 -- an image of 49 words: room for eight records with no bytes
-pub blank : List ℕ
+blank : List ℕ
 blank = replicate 49 7
 
 -- calls with room enough, all their ops carried out
@@ -121,7 +121,8 @@ loss-fits : (F : ℕ) → AllFit (loss F) (formatted blank 33)
 unfolding loss
 loss-fits F = crash-fits (rounds F 1 (F - 1)) (rounds-plain F 1 (F - 1)) (complete F) tt
 
-pub record Lost (F : ℕ) : Type 0 where
+-- what is left to evaluate of it
+record Lost (F : ℕ) : Type 0 where
   disciplined : Disciplined F (loss F) (formatted blank 33)
   lost : length (missing (afterAll (loss F) (formatted blank 33)) (since (loss F) (formatted blank 33) [])) ≡ F
 
