@@ -43,6 +43,7 @@ pub mod images;
 pub mod load;
 pub mod loglist;
 pub mod logload;
+pub mod logorphans;
 pub mod logwhy;
 pub mod replay;
 pub mod rng;
