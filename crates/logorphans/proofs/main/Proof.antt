@@ -1,4 +1,5 @@
--- `logorphans::main` meets its contract: it is safe, and ends if its reads and writes do. The text ends within its room.
+-- `logorphans::main` meets its contract: it is safe, and ends if its reads and writes do. The text ends within its
+-- room.
 -- Cites AnswerLaws.antt of list_image.
 use mathlib.Core.Path.{sym}
 use native.Mathlib.Omega.{arith}
