@@ -15,7 +15,7 @@ cli_c = $(wildcard cli/*.c) driver/driver.c
 cli_h = $(wildcard cli/*.h driver/*.h include/*.h)
 
 .PHONY: help demo list load lib tool prove test programs reference
-.PHONY: compare compare-calls compare-c compare-why compare-load crash crash-three kill bench bench-c speed
+.PHONY: compare compare-calls compare-c compare-why compare-load crash crash-three loss kill bench bench-c speed
 
 help:
 	@echo "make demo          a log in a file, whose writer is killed in the middle, recovered and listed"
@@ -32,6 +32,7 @@ help:
 	@echo "  compare-load     logload, and loglist on what it writes"
 	@echo "make crash         the crash bench: power failures in random histories, SECONDS=60 SEED=1"
 	@echo "make crash-three   the same for three modules: absent ones, missed ops, power failures, SECONDS=60 SEED=1"
+	@echo "make loss          how many completed records a power failure loses, for F of 1 to 16, SECONDS=60 SEED=1"
 	@echo "make kill          processes killed and modules whose power fails, SECONDS=60 SEED=1"
 	@echo "make bench         how long the calls take beside plain Rust, zlib and libpmemlog, ROUNDS=31"
 	@echo "make speed         how long loglist takes for a full image, beside one in plain Rust"
@@ -94,6 +95,9 @@ crash: programs
 
 crash-three: reference
 	$(reference) crash-three $(SECONDS) --seed $(SEED)
+
+loss: reference
+	$(reference) loss $(SECONDS) --seed $(SEED)
 
 kill: lib
 	tests/kill/run $(SECONDS) $(SEED)

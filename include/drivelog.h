@@ -389,7 +389,9 @@ int64_t drivelog_force(uint64_t *state, size_t state_words, uint64_t *image, siz
                        uint64_t lsn, uint64_t frequency, uint64_t *reply, size_t reply_words);
 /*
      Makes every record up to an LSN durable: once the ops are carried out they survive a power failure. With a frequency above 1 the
-   force is deferred, with no ops, as long as no multiple of it is among the LSNs not yet committed up to this one.
+   force is deferred, with no ops, as long as no multiple of it is among the LSNs not yet committed up to this one. If each record is
+   completed and forced with the same frequency F before the next is reserved, a power failure loses at most the F newest of those
+   completed since the last recovery.
 
      Returns 1 if they are durable, 0 if that is deferred, or -DRIVELOG_IMAGE_SIZE, -DRIVELOG_UNSOUND, -DRIVELOG_ARGUMENT (frequency 0),
    -DRIVELOG_NOT_LIVE, -DRIVELOG_UNFINISHED (the detail is the lowest LSN that is still open) or -DRIVELOG_OPS_SHORT.

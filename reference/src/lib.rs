@@ -28,6 +28,7 @@ pub mod plain;
 // What a power failure does, and what must survive it.
 pub mod abstract_log;
 pub mod device;
+pub mod planned;
 pub mod three_system;
 
 // Programs.
@@ -44,6 +45,7 @@ pub mod load;
 pub mod loglist;
 pub mod logload;
 pub mod logwhy;
+pub mod loss;
 pub mod replay;
 pub mod rng;
 pub mod samples;

@@ -13,6 +13,7 @@ use reference::load::compare_load;
 use reference::loglist::{loglist, read_image_bytes};
 use reference::logload::{output, read_text};
 use reference::logwhy::{compare_logwhy, logwhy, read_input};
+use reference::loss::{self, measure_loss, Measured};
 use reference::replay::replay;
 use reference::samples::full_image;
 use reference::shortcut::Shortcut;
@@ -56,6 +57,9 @@ usage: reference example                 print the listing that the program exam
        reference crash-three SECONDS [--seed S] [--variant V]
                                          the same with three modules that are absent, miss ops and lose power
        reference crash-three-variants    the same with each rule broken on purpose: each has to be caught
+       reference loss SECONDS [--seed S] [--variant V]
+                                         how many completed records a power failure loses, for F of 1 to 16
+       reference loss-variants           the same with each rule of the slip broken on purpose: each has to be caught
 ";
 
 fn main() -> ExitCode {
@@ -278,6 +282,8 @@ fn run(args: &[&str]) -> io::Result<ExitCode> {
         ["crash", seconds, options @ ..] => return crash(seconds, options),
         ["crash-three", seconds, options @ ..] => return crash_in_three(seconds, options),
         ["crash-three-variants"] => return each_variant(&mut stdout),
+        ["loss", seconds, options @ ..] => return loss(seconds, options),
+        ["loss-variants"] => return each_loss_variant(&mut stdout),
         _ => {
             eprint!("{USAGE}");
             return Ok(ExitCode::from(2));
@@ -376,6 +382,65 @@ fn each_variant(out: &mut impl Write) -> io::Result<ExitCode> {
     }
     let all = Variant::ALL.len();
     writeln!(out, "crash-three-variants: {caught} of {all} caught")?;
+    out.flush()?;
+    Ok(if caught == all { ExitCode::SUCCESS } else { ExitCode::FAILURE })
+}
+
+fn loss(seconds: &str, options: &[&str]) -> io::Result<ExitCode> {
+    let (mut seed, mut variant) = (1, None);
+    for option in options.chunks(2) {
+        match *option {
+            ["--seed", number] => seed = parse(number)?,
+            ["--variant", name] => {
+                let names = || loss::Variant::ALL.map(|(name, _)| name).join(", ");
+                let named = loss::Variant::named(name);
+                variant =
+                    Some(named.ok_or_else(|| invalid(format!("the variants are {}", names())))?);
+            }
+            _ => return Err(invalid(format!("not an option: {}", option.join(" ")))),
+        }
+    }
+    let report = measure_loss(variant, seed, Duration::from_secs(parse(seconds)?));
+    if let Some(failure) = &report.failure {
+        println!("seed {}: {}", failure.seed, failure.what);
+        failure.story.iter().for_each(|event| println!("  {event}"));
+    }
+    for (frequency, measured) in (1..).zip(&report.measured) {
+        let Measured { images, most_lost, reached } = measured;
+        println!("F = {frequency:>2}: {images} images, {most_lost} lost at most, {reached} times {frequency}");
+    }
+    let unreached = report.unreached();
+    if let Some(frequency) = unreached {
+        println!("F = {frequency} is never reached");
+    }
+    println!(
+        "loss: {} histories, {} power failures, {} recoveries, {} refused calls, {} images, {} failures",
+        report.histories,
+        report.power_failures,
+        report.recoveries,
+        report.refused,
+        report.images(),
+        report.failure.iter().count() + unreached.iter().count(),
+    );
+    let good = report.failure.is_none() && unreached.is_none();
+    Ok(if good { ExitCode::SUCCESS } else { ExitCode::FAILURE })
+}
+
+/// Each variant has to be caught within a minute.
+fn each_loss_variant(out: &mut impl Write) -> io::Result<ExitCode> {
+    let mut caught = 0;
+    for (name, variant) in loss::Variant::ALL {
+        let start = Instant::now();
+        let report = measure_loss(Some(variant), 1, Duration::from_secs(60));
+        let seconds = start.elapsed().as_secs_f64();
+        let what = report.failure.as_ref().map_or("not caught", |failure| &failure.what);
+        let histories = report.histories;
+        writeln!(out, "{name}: {seconds:.2} s, {histories} histories: {what}")?;
+        out.flush()?;
+        caught += usize::from(report.failure.is_some());
+    }
+    let all = loss::Variant::ALL.len();
+    writeln!(out, "loss-variants: {caught} of {all} caught")?;
     out.flush()?;
     Ok(if caught == all { ExitCode::SUCCESS } else { ExitCode::FAILURE })
 }

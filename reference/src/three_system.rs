@@ -4,12 +4,10 @@
 //! as if its power had failed; and a recovery that leaves its raised epoch on no module is followed by recoveries only.
 
 use crate::abstract_log::AbstractLog;
-use crate::calls::{
-    open, plan_complete, plan_copy, plan_force, plan_format, plan_release, plan_release_all,
-    plan_reserve, Forced, Plan,
-};
+use crate::calls::{open, plan_format};
 use crate::device::Device;
 use crate::ops::Op;
+use crate::planned::{plan_call, store_all, Answer, PlannedCall};
 use crate::refusal::Refusal;
 use crate::rng::Rng;
 use crate::script::Command;
@@ -146,26 +144,6 @@ pub fn crash_image(rng: &mut Rng, device: &Device) -> Vec<u64> {
     })
 }
 
-/// What a granted call is going to do.
-pub struct PlannedCall {
-    pub ops: Vec<Op>,
-    state: State,
-    answer: Answer,
-}
-
-#[derive(Clone, Copy, PartialEq, Eq)]
-enum Answer {
-    Reserved { lsn: u64 },
-    Durable,
-    Other,
-}
-
-impl PlannedCall {
-    fn new<A>(plan: Plan<A>, answer: impl FnOnce(A) -> Answer) -> PlannedCall {
-        PlannedCall { ops: plan.ops, state: plan.state, answer: answer(plan.answer) }
-    }
-}
-
 #[derive(Clone, Debug)]
 pub struct System {
     variant: Option<Variant>,
@@ -207,28 +185,7 @@ impl System {
 
     /// Any call but format and recover.
     pub fn plan_call(&self, call: &Command) -> Result<PlannedCall, Refusal> {
-        let (image, state) = (&self.working, &self.state);
-        let other = |()| Answer::Other;
-        Ok(match *call {
-            Command::Reserve { kind, length } => {
-                PlannedCall::new(plan_reserve(image, state, kind, length)?, |reserved| {
-                    Answer::Reserved { lsn: reserved.lsn }
-                })
-            }
-            Command::Copy { lsn, offset, ref bytes } => {
-                PlannedCall::new(plan_copy(image, state, lsn, offset, bytes)?, other)
-            }
-            Command::Complete { lsn } => PlannedCall::new(plan_complete(image, state, lsn)?, other),
-            Command::Force { lsn, frequency } => {
-                PlannedCall::new(plan_force(image, state, lsn, frequency)?, |forced| match forced {
-                    Forced::Durable => Answer::Durable,
-                    Forced::Deferred => Answer::Other,
-                })
-            }
-            Command::Release { lsn } => PlannedCall::new(plan_release(image, state, lsn)?, other),
-            Command::ReleaseAll => PlannedCall::new(plan_release_all(image, state)?, other),
-            _ => unreachable!("not a call between recoveries"),
-        })
+        plan_call(&self.working, &self.state, call)
     }
 
     /// Only if not down.
@@ -376,13 +333,5 @@ impl System {
             module.gets_ops = false;
         }
         self.down = true;
-    }
-}
-
-fn store_all(image: &mut [u64], ops: &[Op]) {
-    for op in ops {
-        if let Op::Store { word, value } = *op {
-            image[word as usize] = value;
-        }
     }
 }
