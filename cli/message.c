@@ -144,7 +144,8 @@ static const char *argument_in_words(char *text, size_t room)
     else if (asked_length > DRIVELOG_MAX_PAYLOAD)
         snprintf(text, room, "the payload has more than %d bytes", DRIVELOG_MAX_PAYLOAD);
     else if (asked_kind == DRIVELOG_REPLACEMENT_KIND && asked_length < DRIVELOG_NAME_BYTES)
-        snprintf(text, room, "a record of kind %d begins with the LSN that it names, %d bytes", DRIVELOG_REPLACEMENT_KIND, DRIVELOG_NAME_BYTES);
+        snprintf(text, room, "a record of kind %d begins with the LSN that it names, %d bytes", DRIVELOG_REPLACEMENT_KIND,
+                 DRIVELOG_NAME_BYTES);
     else
         return drivelog_refusal_text(DRIVELOG_ARGUMENT);
     return text;

@@ -45,7 +45,7 @@ enum drivelog_refusal {
     DRIVELOG_SUPERLINE = 4,       /* the words that say where the log begins are wrong: no log, or one of another size */
     DRIVELOG_NOT_LIVE = 5,        /* no live record has this LSN */
     DRIVELOG_WRONG_STAGE = 6,     /* the record is not open, as copy and complete need it, or not committed, as release does */
-    DRIVELOG_HELD = 20,           /* a later committed record of kind 600 names the record (release); detail: the lowest LSN of such a one */
+    DRIVELOG_HELD = 20,           /* release: a later committed record of kind 600 names the record; detail: the lowest such LSN */
     DRIVELOG_BEYOND_LENGTH = 7,   /* the bytes do not fit the record from the offset on */
     DRIVELOG_NUMBERS_SPENT = 8,   /* no LSN is left to reserve, or no epoch to recover with */
     DRIVELOG_TABLE_FULL = 9,      /* 256 records are live */
