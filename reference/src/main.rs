@@ -20,6 +20,7 @@ use reference::stored_script::stored_script;
 use reference::three_calls::three_calls;
 use reference::three_system::Variant;
 use reference::time::{list_times, load_times};
+use reference::vet_calls::vet_calls;
 use std::fs;
 use std::io::{self, BufWriter, Write};
 use std::path::{Path, PathBuf};
@@ -39,6 +40,7 @@ usage: reference example                 print the listing that the program exam
                                          compare two other programs with ours on N seeds
        reference c-calls DRIVER SEED N   compare the calls that a C program makes with ours, on N images
        reference three PROGRAM SEED N    compare the recovery of three modules that a C program makes with ours
+       reference vet PROGRAM SEED N      compare the check of other units' ops that a C program makes with ours
        reference logwhy                  say why the LSN behind the image on standard input is listed or not
        reference why LOGWHY SEED N       run another logwhy on images of N seeds, each with many LSNs
        reference logload                 write the image that the listing on standard input describes
@@ -166,6 +168,26 @@ fn run(args: &[&str]) -> io::Result<ExitCode> {
                 stdout,
                 "three: {} triples, {} calls, {} differences",
                 report.triples,
+                report.calls,
+                report.difference.iter().count()
+            )?;
+            stdout.flush()?;
+            return Ok(if report.difference.is_none() {
+                ExitCode::SUCCESS
+            } else {
+                ExitCode::FAILURE
+            });
+        }
+        ["vet", program, seed, count] => {
+            let report = vet_calls(Path::new(program), parse(seed)?, parse(count)?)?;
+            if let Some((case, found)) = &report.difference {
+                writeln!(stdout, "seed {}, case {case}: line {} differs", found.seed, found.line)?;
+                writeln!(stdout, "reference: {}\nprogram:   {}", found.ours, found.theirs)?;
+            }
+            writeln!(
+                stdout,
+                "vet: {} cases, {} calls, {} differences",
+                report.cases,
                 report.calls,
                 report.difference.iter().count()
             )?;

@@ -1,4 +1,4 @@
-//! The table "When a call declines", refusals 16 to 19 of document 02, and the tests that slips 4 and 8 have refusal 12 name.
+//! The table "When a call declines", refusals 16 to 19 and 21 of document 02, and the tests that slips 4 and 8 have refusal 12 name.
 
 /// Why a call declined. Its number and detail are those of the documents.
 #[derive(Clone, Copy, Debug, PartialEq, Eq)]
@@ -44,6 +44,10 @@ pub enum Refusal {
     NotNext,
     /// Of three modules' copies fewer than two are readable.
     TooFewCopies,
+    /// The op of this number, counted from 0, is not of the kind that passes.
+    BadOp {
+        number: u64,
+    },
 }
 
 impl Refusal {
@@ -68,6 +72,7 @@ impl Refusal {
             Refusal::BadLine => 17,
             Refusal::NotNext => 18,
             Refusal::TooFewCopies => 19,
+            Refusal::BadOp { .. } => 21,
         }
     }
 
@@ -77,6 +82,7 @@ impl Refusal {
                 lsn
             }
             Refusal::OpBufferShort { needed } => needed,
+            Refusal::BadOp { number } => number,
             _ => 0,
         }
     }
