@@ -194,5 +194,5 @@ fn the_right_rule_is_tried_often() {
     let program = Program { path, args: vec!["replay".to_string()] };
     let report = crash_bench_by(&program, free_words, 4_000, Duration::from_secs(3)).unwrap();
     assert!(report.failure.is_none(), "{:?}", report.failure);
-    assert!(report.passed > 50 && report.passed_crashes > 25, "{report:?}");
+    assert!(report.passed > 10 && report.passed_crashes > 5, "{report:?}");
 }
