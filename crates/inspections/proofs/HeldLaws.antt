@@ -73,7 +73,8 @@ module _ (s : System) {ran : RunLog} (i : Inv s ran) {j n : ℕ} (r : Rests (s .
       let comm = staged (rec .stage) high (ap (λ (x : Promise). x .begun) same ∙ a .begun) in
       let named = firm-names (i .quiet .zoned) (i .quiet .size)
       (shown-obeys (s .image) refl (i .shows) (i .quiet .keeps)) ag j low high (a .promise) (a .is) ∙ r .names in
-      let holder : isHolder (s .image) (s .state .area) n (entryOf (s .state) j) ≡ true = rw (comm, named) (eq-eqb n n refl) in
+      let holder : isHolder (s .image) (s .state .area) n (entryOf (s .state) j) ≡ true =
+      rw (comm, named) (eq-eqb n n refl) in
       let some = found (s .state) (s .image) n j (suc n) (s .state .«next_lsn» - suc n) (omega arith) (r .before)
       (omega arith) holder in
       false≢true (sym h5 ∙ lt-ltb 0 (holderOf (s .state) (s .image) n) some)
@@ -98,7 +99,8 @@ pub data Fed (e : Promise) (c : Call) (a : Reply Granted) (m k : ℕ) : Option P
 pub feed-cases : (c : Call) (a : Reply Granted) (count m f : ℕ) → Late c a f → (log : AbstractLog) (k : ℕ) → k < f
     → (e : Promise) → log k ≡ some e → Fed e c a m k (feed c a count m log k)
 unfolding feed feedGranted
-feed-cases (reserve kind len) (ok (reserved q pos)) count m f l log k h e is = rw (ne-eqb k q (λ x. omega arith), is) same
+feed-cases (reserve kind len) (ok (reserved q pos)) count m f l log k h e is =
+    rw (ne-eqb k q (λ x. omega arith), is) same
 feed-cases (reserve kind len) (ok done) count m f l log k h e is = rw is same
 feed-cases (reserve kind len) (ok durable) count m f l log k h e is = rw is same
 feed-cases (reserve kind len) (ok deferred) count m f l log k h e is = rw is same

@@ -1,5 +1,5 @@
--- A replacement and its inspection stay listed: each event leaves both durable with no release begun, since a release of
--- the inspection is refused. Cites HeldLaws.antt, and the invariant of the crash theorem.
+-- A replacement and its inspection stay listed: each event leaves both durable with no release begun, since a release
+-- of the inspection is refused. Cites HeldLaws.antt, and the invariant of the crash theorem.
 use mathlib.Core.Path.{_≡_, refl, ap, _∙_, sym, subst}
 use mathlib.Core.List.{List, [], _∷_}
 use mathlib.Core.Bool.{Bool, true, false, true≢false}

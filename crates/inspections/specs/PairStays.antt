@@ -1,6 +1,6 @@
 -- A replacement and its inspection stay listed. Slip 11: "An inspection may not be released while a later committed,
--- unreleased kind 600 record names it." In demand 3's runs, over power failures: once both are durable and no release of
--- them is begun, both are listed by the next recovery as long as no release of the replacement is begun.
+-- unreleased kind 600 record names it." In demand 3's runs, over power failures: once both are durable and no release
+-- of them is begun, both are listed by the next recovery as long as no release of the replacement is begun.
 use mathlib.Core.Path.{_≡_}
 use mathlib.Core.List.{List, [], _∷_}
 use mathlib.Core.Bool.{true, false}
