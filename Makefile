@@ -15,7 +15,7 @@ cli_c = $(wildcard cli/*.c) driver/driver.c
 cli_h = $(wildcard cli/*.h driver/*.h include/*.h)
 
 .PHONY: help demo list load lib tool prove test programs reference
-.PHONY: compare compare-calls compare-c compare-why compare-load crash crash-three loss kill bench bench-c speed
+.PHONY: compare compare-calls compare-c compare-why compare-orphans compare-load crash crash-three loss kill bench bench-c speed
 
 help:
 	@echo "make demo          a log in a file, whose writer is killed in the middle, recovered and listed"
@@ -25,10 +25,11 @@ help:
 	@echo "make tool          the command-line tool $(tool), over that archive and driver/"
 	@echo "make list          the records of a sample module, by loglist"
 	@echo "make load          an image made from a sample listing by logload, and listed again"
-	@echo "make compare       all four comparisons with the reference, SCRIPTS=1000 SEED=1:"
+	@echo "make compare       all five comparisons with the reference, SCRIPTS=1000 SEED=1:"
 	@echo "  compare-calls    the eleven calls, on random scripts, and loglist on random images"
 	@echo "  compare-c        the calls for C, on images and scripts"
 	@echo "  compare-why      logwhy"
+	@echo "  compare-orphans  logorphans"
 	@echo "  compare-load     logload, and loglist on what it writes"
 	@echo "make crash         the crash bench: power failures in random histories, SECONDS=60 SEED=1"
 	@echo "make crash-three   the same for three modules: absent ones, missed ops, power failures, SECONDS=60 SEED=1"
@@ -74,7 +75,7 @@ reference:
 programs: reference
 	tools/rt check replay loglist
 
-compare: compare-calls compare-c compare-why compare-load
+compare: compare-calls compare-c compare-why compare-orphans compare-load
 
 compare-calls: programs
 	$(reference) compare target/bin/replay target/bin/loglist $(SEED) $(SCRIPTS)
@@ -85,6 +86,10 @@ compare-c: lib reference
 compare-why: reference
 	tools/rt check logwhy
 	$(reference) why target/bin/logwhy $(SEED) $(SCRIPTS)
+
+compare-orphans: reference
+	tools/rt check logorphans
+	$(reference) orphans target/bin/logorphans $(SEED) $(SCRIPTS)
 
 compare-load: reference
 	tools/rt check logload loglist

@@ -51,6 +51,7 @@ static uint64_t number(const struct command *command, int index)
 
 static int run_list(const struct command *command) { return (void)command, list(); }
 static int run_why(const struct command *command) { return why(number(command, 1)); }
+static int run_orphans(const struct command *command) { return (void)command, orphans(); }
 static int run_info(const struct command *command) { return (void)command, info(); }
 static int run_format(const struct command *command) { return format(number(command, 1)); }
 static int run_append(const struct command *command) { return append(number(command, 1), argument[2]); }
@@ -64,6 +65,9 @@ static const struct command commands[] = {
      "the records, oldest first: LSN, kind, length, data in hex; then how the log ends"},
     {"why", {"FILE", "LSN"}, TAKES_WAIT, run_why,
      "why a record is listed or not: listed, below, released, end, damaged or toomany"},
+    {"orphans", {"FILE"}, TAKES_WAIT, run_orphans,
+     "the LSNs of the records of kind 600 (replacements) whose first 8 bytes name another\n"
+     "      number than 0 and than an earlier record's LSN; then how the log ends"},
     {"info", {"FILE"}, TAKES_WAIT, run_info,
      "head, end, epoch, records, room, and the ring in one line: H head, # listed,\n"
      "      r released, E end, . free; X damage, and then ? for what nobody knows"},
@@ -91,7 +95,7 @@ static const struct command commands[] = {
     {"release-all", {"FILE"}, TAKES_WAIT, run_release_all, "gives all records back"},
     {"recover", {"FILE"}, TAKES_WAIT, run_recover, "the recovery alone"},
 };
-enum { COMMANDS = sizeof commands / sizeof commands[0], READING_COMMANDS = 3 };
+enum { COMMANDS = sizeof commands / sizeof commands[0], READING_COMMANDS = 4 };
 
 /* ---------------------------------------------------------------- help */
 

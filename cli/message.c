@@ -143,6 +143,9 @@ static const char *argument_in_words(char *text, size_t room)
         snprintf(text, room, "kind %" PRIu64 " is not 1 to %d", asked_kind, DRIVELOG_MAX_KIND);
     else if (asked_length > DRIVELOG_MAX_PAYLOAD)
         snprintf(text, room, "the payload has more than %d bytes", DRIVELOG_MAX_PAYLOAD);
+    else if (asked_kind == DRIVELOG_REPLACEMENT_KIND && asked_length < DRIVELOG_NAME_BYTES)
+        snprintf(text, room, "a record of kind %d begins with the LSN that it names, %d bytes", DRIVELOG_REPLACEMENT_KIND,
+                 DRIVELOG_NAME_BYTES);
     else
         return drivelog_refusal_text(DRIVELOG_ARGUMENT);
     return text;
@@ -166,6 +169,7 @@ static const char *refusal_in_words(char *text, size_t room)
             snprintf(text, room, "no live record has LSN %" PRIu64, asked_lsn);
         return text;
     case DRIVELOG_WRONG_STAGE: snprintf(text, room, "record %" PRIu64 " is released already", asked_lsn); return text;
+    case DRIVELOG_HELD: snprintf(text, room, "record %" PRIu64 " rests on it; release that one first", detail); return text;
     case DRIVELOG_UNFINISHED: snprintf(text, room, "record %" PRIu64 " is not complete or not committed", detail); return text;
     case DRIVELOG_DAMAGED: snprintf(text, room, "record %" PRIu64 " is damaged: %s", detail, test); return text;
     case DRIVELOG_TOO_MANY:

@@ -15,6 +15,7 @@
 #include <unistd.h>
 
 enum {
+    REPLACEMENT = 600,    /* the kind of a record that reports a replacement */
     RING_DRAWN = 64,      /* characters of the ring's line */
     MAX_WAIT = 1000000000 /* seconds: for ever */
 };
@@ -87,6 +88,21 @@ int64_t next(uint64_t *cursor, uint64_t *record)
     return drivelog_next(image, words, cursor, DRIVELOG_CURSOR_WORDS, record, DRIVELOG_RECORD_WORDS, REPLY);
 }
 
+/* The last line of a listing, by what `next` answered after the last record, and the status that it means. */
+static int end_of_listing(int64_t found)
+{
+    if (found == 0) {
+        printf("end %" PRIu64 "\n", reply[DRIVELOG_REPLY_SECOND]);
+        return DONE;
+    }
+    if (found == -DRIVELOG_DAMAGED)
+        printf("damaged %" PRIu64 " %s\n", reply[DRIVELOG_REPLY_DETAIL], test_word(reply[DRIVELOG_REPLY_SECOND]));
+    else if (found == -DRIVELOG_TOO_MANY)
+        printf("toomany %" PRIu64 "\n", reply[DRIVELOG_REPLY_DETAIL]);
+    say_refusal();
+    return REFUSED;
+}
+
 int list(void)
 {
     uint64_t cursor[DRIVELOG_CURSOR_WORDS], record[DRIVELOG_RECORD_WORDS];
@@ -104,16 +120,45 @@ int list(void)
             printf("%02x", payload[i]);
         puts(length == 0 ? "-" : "");
     }
-    if (found == 0) {
-        printf("end %" PRIu64 "\n", reply[DRIVELOG_REPLY_SECOND]);
-        return DONE;
+    return end_of_listing(found);
+}
+
+/* The LSN that a record names, 0 for none: a replacement's first 8 bytes, little-endian. */
+static uint64_t named_by(const uint64_t *record)
+{
+    uint8_t payload[DRIVELOG_MAX_PAYLOAD];
+    uint64_t length = record[DRIVELOG_RECORD_LENGTH], named = 0;
+    if (record[DRIVELOG_RECORD_KIND] != REPLACEMENT || length < 8)
+        return 0;
+    granted(drivelog_fetch(image, words, record[DRIVELOG_RECORD_POS], length, payload, sizeof payload, REPLY));
+    for (int i = 7; i >= 0; i--)
+        named = named << 8 | payload[i];
+    return named;
+}
+
+static int is_one_of(uint64_t lsn, const uint64_t *lsns, size_t count)
+{
+    for (size_t i = 0; i < count; i++)
+        if (lsns[i] == lsn)
+            return 1;
+    return 0;
+}
+
+int orphans(void)
+{
+    uint64_t cursor[DRIVELOG_CURSOR_WORDS], record[DRIVELOG_RECORD_WORDS], listed[DRIVELOG_MAX_RECORDS];
+    size_t count = 0;
+    int64_t found;
+    open_to_read(cursor);
+    while ((found = next(cursor, record)) == 1) {
+        if (record[DRIVELOG_RECORD_MARK] == DRIVELOG_MARK_RELEASED)
+            continue;
+        uint64_t named = named_by(record);
+        if (named != 0 && !is_one_of(named, listed, count))
+            printf("%" PRIu64 "\n", record[DRIVELOG_RECORD_LSN]);
+        listed[count++] = record[DRIVELOG_RECORD_LSN];
     }
-    if (found == -DRIVELOG_DAMAGED)
-        printf("damaged %" PRIu64 " %s\n", reply[DRIVELOG_REPLY_DETAIL], test_word(reply[DRIVELOG_REPLY_SECOND]));
-    else if (found == -DRIVELOG_TOO_MANY)
-        printf("toomany %" PRIu64 "\n", reply[DRIVELOG_REPLY_DETAIL]);
-    say_refusal();
-    return REFUSED;
+    return end_of_listing(found);
 }
 
 /* Damage is an answer here, and no error. */

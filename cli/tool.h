@@ -66,6 +66,7 @@ int try_again(void);
 
 int list(void);
 int why(uint64_t lsn);
+int orphans(void);
 int info(void);
 
 /* ---------------------------------------------------------------- write.c */

@@ -45,6 +45,7 @@ enum drivelog_refusal {
     DRIVELOG_SUPERLINE = 4,       /* the words that say where the log begins are wrong: no log, or one of another size */
     DRIVELOG_NOT_LIVE = 5,        /* no live record has this LSN */
     DRIVELOG_WRONG_STAGE = 6,     /* the record is not open, as copy and complete need it, or not committed, as release does */
+    DRIVELOG_HELD = 20,           /* release: a later committed record of kind 600 names the record; detail: the lowest such LSN */
     DRIVELOG_BEYOND_LENGTH = 7,   /* the bytes do not fit the record from the offset on */
     DRIVELOG_NUMBERS_SPENT = 8,   /* no LSN is left to reserve, or no epoch to recover with */
     DRIVELOG_TABLE_FULL = 9,      /* 256 records are live */
@@ -88,6 +89,7 @@ static inline const char *drivelog_refusal_text(int64_t number)
     case DRIVELOG_OPS_SHORT: return "the op buffer is too short";
     case DRIVELOG_NO_SUCH_RECORD: return "no such record";
     case DRIVELOG_TOO_FEW_COPIES: return "fewer than two copies can be read";
+    case DRIVELOG_HELD: return "a later record rests on this one";
     default: return "no refusal of this version";
     }
 }
@@ -98,7 +100,9 @@ enum drivelog_limit {
     DRIVELOG_MAX_IMAGE = 8 * DRIVELOG_MAX_IMAGE_WORDS, /* bytes of the largest image */
     DRIVELOG_MAX_RECORDS = 256,                        /* records that a log holds at most */
     DRIVELOG_MAX_KIND = 65535,                         /* kinds are 1 to this */
-    DRIVELOG_MAX_PAYLOAD = 1024                        /* bytes of the longest payload: an output of this size is always enough */
+    DRIVELOG_MAX_PAYLOAD = 1024,                       /* bytes of the longest payload: an output of this size is always enough */
+    DRIVELOG_REPLACEMENT_KIND = 600,                   /* the kind of a record that names the one that it rests on */
+    DRIVELOG_NAME_BYTES = 8                            /* the bytes in which it does, the first of its payload */
 };
 
 int64_t drivelog_count(const uint8_t *image, size_t bytes);
@@ -347,7 +351,9 @@ int64_t drivelog_reserve(uint64_t *state, size_t state_words, uint64_t *image, s
                          uint64_t kind, uint64_t length, uint64_t *reply, size_t reply_words);
 /*
      Room for a record of a kind, 1 to 65,535, and a length, 0 to 1,024 bytes, after the last one. The record is open, its payload
-   zeros. One store for each word of the record and one for the word after it, no flush.
+   zeros. One store for each word of the record and one for the word after it, no flush. A record of kind 600 reports a replacement:
+   its first 8 bytes, least significant first, are the LSN of the inspection that it rests on, 0 for none, so that its length is 8 or
+   more.
 
      Returns its LSN, 1 or more, or -DRIVELOG_IMAGE_SIZE, -DRIVELOG_UNSOUND, -DRIVELOG_ARGUMENT, -DRIVELOG_NUMBERS_SPENT,
    -DRIVELOG_TABLE_FULL, -DRIVELOG_NO_ROOM or -DRIVELOG_OPS_SHORT. The second value is its ring position.
@@ -405,9 +411,11 @@ int64_t drivelog_force(uint64_t *state, size_t state_words, uint64_t *image, siz
 int64_t drivelog_release(uint64_t *state, size_t state_words, uint64_t *image, size_t image_words, uint64_t *ops, size_t ops_words,
                          uint64_t lsn, uint64_t *reply, size_t reply_words);
 /*
-     Gives a committed record back. 1 op, or 10 for the oldest live record, which moves the log's head on.
+     Gives a committed record back. 1 op, or 10 for the oldest live record, which moves the log's head on. As long as a later committed
+   record of kind 600 names it, it is held: that one is given back first, or all of them by drivelog_release_all.
 
-     Returns 0, or -DRIVELOG_IMAGE_SIZE, -DRIVELOG_UNSOUND, -DRIVELOG_NOT_LIVE, -DRIVELOG_WRONG_STAGE or -DRIVELOG_OPS_SHORT.
+     Returns 0, or -DRIVELOG_IMAGE_SIZE, -DRIVELOG_UNSOUND, -DRIVELOG_NOT_LIVE, -DRIVELOG_WRONG_STAGE, -DRIVELOG_HELD (the detail is the
+   lowest LSN that holds it) or -DRIVELOG_OPS_SHORT.
 
      Example:
 

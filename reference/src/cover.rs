@@ -6,12 +6,12 @@ use crate::replay::replay;
 use crate::script::{Answer, Outcome};
 use std::fmt::Write as _;
 
-/// Refusals of a script's calls are numbered 1 to 15.
-const REFUSALS: usize = 15;
+/// Refusals of a script's calls are numbered 1 to 15, and 20.
+const REFUSALS: usize = 20;
 
 /// The calls, and which refusals of document 01's table each can meet. Refusal 1 is every call's. 2 goes
 /// with a state or a cursor, 4 with reading the superline, 15 with an op buffer; the table names the
-/// calls of 3 and 6 to 14. 5 is for calls that are handed an LSN, except those that make one. The walk
+/// calls of 3 and 6 to 14, slip 11 that of 20. 5 is for calls that are handed an LSN, except those that make one. The walk
 /// of take up meets 13 and 12.
 pub const REACHABLE: [(&str, &[usize]); 11] = [
     ("format", &[1, 15]),
@@ -19,7 +19,7 @@ pub const REACHABLE: [(&str, &[usize]); 11] = [
     ("copy", &[1, 2, 5, 6, 7, 15]),
     ("complete", &[1, 2, 5, 6, 15]),
     ("force", &[1, 2, 3, 5, 11, 15]),
-    ("release", &[1, 2, 5, 6, 15]),
+    ("release", &[1, 2, 5, 6, 20, 15]),
     ("releaseall", &[1, 2, 11, 15]),
     ("takeup", &[1, 4, 8, 12, 13, 15]),
     ("open", &[1, 4]),

@@ -15,7 +15,8 @@ use crate::device::Device;
 use crate::gen::roomy_op_buffer;
 use crate::layout::{
     record_check, record_size, CheckWord, Header, Ring, FIRST_RING_WORD, HEADER_WORDS,
-    MARK_COMMITTED, MARK_RELEASED, MAX_KIND, OLD_TABLE_SIZE, TABLE_SIZE,
+    MARK_COMMITTED, MARK_RELEASED, MAX_KIND, NAMING_BYTES, OLD_TABLE_SIZE, REPLACEMENT_KIND,
+    TABLE_SIZE,
 };
 use crate::ops::{Op, OP_WORDS};
 use crate::rng::Rng;
@@ -648,7 +649,10 @@ impl<'a> History<'a> {
                 let length = rng.pick(&self.lengths);
                 // Now and then even where there is no room.
                 if record_size(length) < view.free_words() || rng.chance(1, 6) {
-                    Command::Reserve { kind: rng.between(1, MAX_KIND), length }
+                    let replacement = length >= NAMING_BYTES && rng.chance(1, 3);
+                    let kind =
+                        if replacement { REPLACEMENT_KIND } else { rng.between(1, MAX_KIND) };
+                    Command::Reserve { kind, length }
                 } else if !committed.is_empty() && !(keeps && (open.len() + forceable.len() > 0)) {
                     // The oldest, to make room.
                     Command::Release { lsn: committed[0] }
@@ -667,6 +671,11 @@ impl<'a> History<'a> {
     fn choose_copy(&mut self, lsn: u64, view: &StateView) -> Command {
         let rng = &mut self.rng;
         let length = view.length(lsn);
+        if length >= NAMING_BYTES && rng.chance(1, 4) {
+            // A live record, which a replacement then rests on.
+            let named = rng.between(view.head_lsn, lsn);
+            return Command::Copy { lsn, offset: 0, bytes: named.to_le_bytes().to_vec() };
+        }
         if length >= 8 * HEADER_WORDS && rng.chance(1, 2) {
             let later = lsn + rng.between(1, 3);
             let kind = rng.between(1, MAX_KIND);

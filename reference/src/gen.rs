@@ -8,7 +8,7 @@ use crate::device::Device;
 use crate::layout::{
     record_check, record_size, CheckWord, Header, Ring, Superline, FIRST_RING_WORD, HEADER_WORDS,
     LSN_LIMIT, MARK_COMMITTED, MARK_RELEASED, MAX_EPOCH, MAX_IMAGE_WORDS, MAX_KIND, MAX_LENGTH,
-    MIN_IMAGE_WORDS, OLD_TABLE_SIZE, TABLE_SIZE,
+    MIN_IMAGE_WORDS, OLD_TABLE_SIZE, REPLACEMENT_KIND, TABLE_SIZE,
 };
 use crate::ops::OP_WORDS;
 use crate::replay::{entry_numbers, fields, Machine};
@@ -98,8 +98,9 @@ impl Generator {
     }
 
     fn chapter(&mut self) {
-        match self.rng.below(13) {
+        match self.rng.below(14) {
             0..=2 => self.small_history(),
+            13 => self.replacements(),
             3 => self.large_history(),
             4 if self.rng.chance(1, 2) => self.many_records(),
             4 => self.small_history(),
@@ -213,6 +214,93 @@ impl Generator {
         }
         self.call(Command::ReleaseAll);
         self.look();
+    }
+
+    /// Inspections and the replacements that rest on them, named before and after they are there, released, unknown or none, some
+    /// named by several; released in any order, now and then after a power failure or with a replacement too short to name one.
+    fn replacements(&mut self) {
+        let words = self.rng.between(80, 300);
+        self.format(words);
+        for _ in 0..self.rng.between(1, 4) {
+            for _ in 0..self.rng.between(2, 12) {
+                self.inspection_or_replacement();
+            }
+            if self.rng.chance(1, 3) {
+                let length = self.rng.below(10);
+                self.call(Command::Reserve { kind: REPLACEMENT_KIND, length });
+            }
+            for lsn in self.live_in(Stage::Open) {
+                if self.rng.chance(7, 8) {
+                    self.make(Command::Complete { lsn });
+                }
+            }
+            let (lsn, frequency) = (self.force_target(), self.frequency());
+            self.call(Command::Force { lsn, frequency });
+            if self.rng.chance(1, 4) {
+                self.shorten_a_replacement();
+            }
+            if self.rng.chance(1, 6) {
+                self.crash();
+            }
+            let mut live: Vec<u64> = self.machine.state.live().collect();
+            match self.rng.below(3) {
+                0 => {}
+                1 => live.reverse(),
+                _ => self.rng.shuffle(&mut live),
+            }
+            for lsn in live {
+                if self.rng.chance(2, 3) {
+                    self.call(Command::Release { lsn });
+                }
+            }
+        }
+        self.look();
+    }
+
+    /// A record complete, mostly one of kind 600 that names a number near its own.
+    fn inspection_or_replacement(&mut self) {
+        let kind =
+            if self.rng.chance(2, 3) { REPLACEMENT_KIND } else { self.rng.pick(&[599, 601, 1]) };
+        let length = self.rng.pick(&[8, 8, 8, 9, 16, 20]);
+        let reserved = self.make(Command::Reserve { kind, length });
+        let Some(&[lsn, _]) = reserved.numbers("ok") else {
+            return;
+        };
+        let &State { head_lsn, .. } = &self.machine.state;
+        let named = match self.rng.below(10) {
+            0 => 0,
+            1 => lsn,
+            2 => lsn + self.rng.between(1, 3),
+            3 => head_lsn.wrapping_sub(1),
+            4 => self.number(),
+            5 => head_lsn,
+            _ => self.rng.between(head_lsn, lsn),
+        };
+        self.make(Command::Copy { lsn, offset: 0, bytes: named.to_le_bytes().to_vec() });
+        if self.rng.chance(9, 10) {
+            self.make(Command::Complete { lsn });
+        }
+    }
+
+    /// Makes the table say that a replacement has fewer than 8 bytes, as one may be stored from before the rule.
+    fn shorten_a_replacement(&mut self) {
+        let state = self.machine.state.clone();
+        if !state.is_sound() {
+            return;
+        }
+        let replacements: Vec<u64> =
+            state.live().filter(|&lsn| state.entry(lsn).kind == REPLACEMENT_KIND).collect();
+        if replacements.is_empty() {
+            return;
+        }
+        let lsn = self.rng.pick(&replacements);
+        let mut wanted = state;
+        let length = wanted.entry(lsn).length;
+        // A record of 8 bytes has as many words as one of 1 to 7.
+        if length == 8 {
+            wanted.entry_mut(lsn).length = self.rng.between(1, 7);
+            self.set_state(&wanted);
+        }
     }
 
     fn live_count(&self) -> u64 {

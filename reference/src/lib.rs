@@ -44,6 +44,7 @@ pub mod images;
 pub mod load;
 pub mod loglist;
 pub mod logload;
+pub mod logorphans;
 pub mod logwhy;
 pub mod loss;
 pub mod replay;

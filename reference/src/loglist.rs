@@ -36,15 +36,25 @@ fn list(bytes: &[u8]) -> Result<String, Refusal> {
                 }
                 cursor = behind;
             }
-            Ok(Next::End { lsn }) => break format!("end {lsn}\n"),
-            Err(Refusal::Damaged { lsn, test }) => {
-                break format!("damaged {lsn} {}\n", test.word());
-            }
-            Err(Refusal::TooMany { lsn }) => break format!("toomany {lsn}\n"),
-            Err(refusal) => return Err(refusal),
+            Ok(Next::End { lsn }) => break end_line(lsn),
+            Err(refusal) => break stop_line(refusal)?,
         }
     };
     Ok(text + &last_line)
+}
+
+/// The last line where the walk reached the end.
+pub fn end_line(lsn: u64) -> String {
+    format!("end {lsn}\n")
+}
+
+/// The last line where damage or one record too many stopped the walk.
+pub fn stop_line(refusal: Refusal) -> Result<String, Refusal> {
+    match refusal {
+        Refusal::Damaged { lsn, test } => Ok(format!("damaged {lsn} {}\n", test.word())),
+        Refusal::TooMany { lsn } => Ok(format!("toomany {lsn}\n")),
+        refusal => Err(refusal),
+    }
 }
 
 /// Bytes as hex pairs, "-" if there are none.

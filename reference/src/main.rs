@@ -12,6 +12,7 @@ use reference::layout::OLD_TABLE_SIZE;
 use reference::load::compare_load;
 use reference::loglist::{loglist, read_image_bytes};
 use reference::logload::{output, read_text};
+use reference::logorphans::{compare_logorphans, logorphans, orphan_image};
 use reference::logwhy::{compare_logwhy, logwhy, read_input};
 use reference::loss::{self, measure_loss, Measured};
 use reference::replay::replay;
@@ -42,6 +43,10 @@ usage: reference example                 print the listing that the program exam
        reference three PROGRAM SEED N    compare the recovery of three modules that a C program makes with ours
        reference logwhy                  say why the LSN behind the image on standard input is listed or not
        reference why LOGWHY SEED N       run another logwhy on images of N seeds, each with many LSNs
+       reference logorphans              list the replacements in the image on standard input whose inspection is not listed before them
+       reference orphan-image SEED       write an image with replacements that name numbers of every sort
+       reference orphans LOGORPHANS SEED N
+                                         run another logorphans on images of N seeds
        reference logload                 write the image that the listing on standard input describes
        reference load LOGLOAD LOGLIST SEED N
                                          run two other programs on listings, good and changed, of N seeds
@@ -192,6 +197,35 @@ fn run(args: &[&str]) -> io::Result<ExitCode> {
                 "why: {} images, {} inputs, {} differences",
                 report.images,
                 report.inputs,
+                report.difference.iter().count()
+            )?;
+            stdout.flush()?;
+            return Ok(if report.difference.is_none() {
+                ExitCode::SUCCESS
+            } else {
+                ExitCode::FAILURE
+            });
+        }
+        ["logorphans"] => {
+            let bytes = read_image_bytes(io::stdin().lock())?;
+            stdout.write_all(logorphans(&bytes).as_bytes())?;
+        }
+        ["orphan-image", seed] => stdout.write_all(&orphan_image(parse(seed)?).1)?,
+        ["orphans", program, seed, count] => {
+            let report = compare_logorphans(Path::new(program), parse(seed)?, parse(count)?)?;
+            if let Some((image, found)) = &report.difference {
+                writeln!(
+                    stdout,
+                    "seed {}, image '{image}': line {} differs",
+                    found.seed, found.line
+                )?;
+                writeln!(stdout, "reference: {}\nprogram:   {}", found.ours, found.theirs)?;
+            }
+            writeln!(
+                stdout,
+                "orphans: {} images, {} LSNs, {} differences",
+                report.images,
+                report.lsns,
                 report.difference.iter().count()
             )?;
             stdout.flush()?;

@@ -1,4 +1,4 @@
-//! The table "When a call declines", refusals 16 to 19 of document 02, and the tests that slips 4 and 8 have refusal 12 name.
+//! The table "When a call declines", refusals 16 to 20 of document 02, and the tests that slips 4 and 8 have refusal 12 name.
 
 /// Why a call declined. Its number and detail are those of the documents.
 #[derive(Clone, Copy, Debug, PartialEq, Eq)]
@@ -44,6 +44,10 @@ pub enum Refusal {
     NotNext,
     /// Of three modules' copies fewer than two are readable.
     TooFewCopies,
+    /// The committed replacement `lsn`, the lowest such one, rests on the record to be released.
+    Held {
+        lsn: u64,
+    },
 }
 
 impl Refusal {
@@ -68,14 +72,16 @@ impl Refusal {
             Refusal::BadLine => 17,
             Refusal::NotNext => 18,
             Refusal::TooFewCopies => 19,
+            Refusal::Held { .. } => 20,
         }
     }
 
     pub fn detail(self) -> u64 {
         match self {
-            Refusal::NotReady { lsn } | Refusal::Damaged { lsn, .. } | Refusal::TooMany { lsn } => {
-                lsn
-            }
+            Refusal::NotReady { lsn }
+            | Refusal::Damaged { lsn, .. }
+            | Refusal::TooMany { lsn }
+            | Refusal::Held { lsn } => lsn,
             Refusal::OpBufferShort { needed } => needed,
             _ => 0,
         }

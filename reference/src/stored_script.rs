@@ -13,6 +13,7 @@ pub fn stored_script() -> Vec<u8> {
     script.nothing_there();
     script.a_log_of_64_words();
     script.damage();
+    script.replacements();
     script.a_full_table();
     script.states_by_hand();
     script.epochs_in_records();
@@ -180,6 +181,27 @@ impl Script {
         self.release_all();
         self.release_all();
         self.release(2);
+    }
+
+    /// A replacement and the inspection that it rests on.
+    fn replacements(&mut self) {
+        self.format();
+        self.reserve(600, 7);
+        self.reserve(1, 0);
+        self.reserve(600, 8);
+        self.reserve(600, 9);
+        self.copy(2, 0, &[1]);
+        self.copy(3, 0, &[1]);
+        for lsn in 1..=3 {
+            self.complete(lsn);
+        }
+        self.force(1, 1);
+        self.force(3, 1);
+        self.release(1);
+        self.release(2);
+        self.release(1);
+        self.release(3);
+        self.release(1);
     }
 
     /// A damaged record, a damaged superline, a cursor that is not sound or has seen a full table.

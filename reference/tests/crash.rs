@@ -7,8 +7,8 @@ use std::time::Duration;
 
 /// The seed of a history that fills the table.
 const MANY_RECORDS: u64 = 175;
-/// The seed of a history with records of four epochs in one image, 0 among them.
-const SEVERAL_RUNS: u64 = 72;
+/// The seed of a history with records of four epochs or more in one image, 0 among them.
+const SEVERAL_RUNS: u64 = 515;
 
 fn bench(shortcut: Option<usize>, seed: u64, seconds: u64) -> Report {
     let mut args = vec!["replay".to_string()];

@@ -11,14 +11,14 @@ static bool texts()
 {
     const std::string none = drivelog_refusal_text(0);
     std::set<std::string> seen;
-    for (int64_t number = 1; number <= 19; number++) {
+    for (int64_t number = 1; number <= 20; number++) {
         if (number == 17 || number == 18) // refusals of the program logload, which no call gives
             continue;
         const std::string text = drivelog_refusal_text(number);
         if (text == none || text != drivelog_refusal_text(-number) || !seen.insert(text).second)
             return false;
     }
-    return none == drivelog_refusal_text(17) && none == drivelog_refusal_text(20) && none == drivelog_refusal_text(INT64_MIN) && none == drivelog_refusal_text(INT64_MAX);
+    return none == drivelog_refusal_text(17) && none == drivelog_refusal_text(21) && none == drivelog_refusal_text(INT64_MIN) && none == drivelog_refusal_text(INT64_MAX);
 }
 
 static bool version()

@@ -1,4 +1,5 @@
--- Texts put one after another: nothing, one byte, two texts in a row, and one byte more of a byte string.
+-- Texts put one after another: nothing, one byte, two texts in a row, a text under way, and one byte more of a byte
+-- string.
 -- Cites specs/Text.antt.
 use mathlib.Core.Path.{_≡_, refl, sym, ap, _∙_}
 use mathlib.Core.List.{List, [], _∷_, _++_, append-assoc, append-nil}
@@ -41,6 +42,23 @@ appended-both {at} {r} {t} {a} {b} {c} {s} {u} p q =
       end = omega arith;
       room = q .room ∙ p .room;
     }
+
+-- a text under way: whatever puts the rest from here on leaves the whole
+pub record Leads (at₀ at : ℕ) (out₀ out rest whole : List ℕ) : Type 0 where
+  pub whole-put : {r : ℕ} {out′ : List ℕ} → Appended at r out out′ rest → Appended at₀ r out₀ out′ whole
+
+pub leads-start : (at : ℕ) (out text : List ℕ) → Leads at at out out text text
+leads-start at out text = record { whole-put = λ p. p }
+
+module _ {at₀ at to : ℕ} {out₀ out out′ rest whole text : List ℕ} (way : Leads at₀ at out₀ out rest whole)
+    (put : Appended at to out out′ text) where
+  -- a part of the rest, and what is left then
+  pub leads-on : {left : List ℕ} → rest ≡ text ++ left → Leads at₀ to out₀ out′ left whole
+  leads-on e = record { whole-put = λ p. way .whole-put (appended-as (appended-both put p) (sym e)) }
+
+  -- all of the rest
+  pub leads-last : rest ≡ text → Appended at₀ to out₀ out′ whole
+  leads-last e = way .whole-put (appended-as put (sym e))
 
 -- one more byte of a byte string
 pub bytes-more : {at i : ℕ} {a b : List ℕ} (bs : List ℕ) → Appended at (at + i) a b (take i bs) → i < length bs

@@ -1,0 +1,3 @@
+-- Laws, a file for each subject.
+pub mod HeldLaws
+pub mod PairTheorem
