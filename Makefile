@@ -11,7 +11,7 @@ tool = target/bin/drivelog
 c_crates = c_query c_read c_write c_three
 # What the archive is made of: the files of these crates and of all that they stand on.
 c_sources := $(shell tools/sources $(c_crates))
-cli_c = $(wildcard cli/*.c) driver/driver.c
+cli_c = $(wildcard cli/*.c driver/*.c)
 cli_h = $(wildcard cli/*.h driver/*.h include/*.h)
 
 .PHONY: help demo list load lib tool prove test programs reference
