@@ -87,10 +87,10 @@ static void take(struct handle_module *m, struct driver_module *module)
         put_away(m, DRIVELOG_IMAGE_SIZE);
 }
 
-/* Opens a module, unless it is there and nothing is wrong with it. */
+/* Opens a module, unless it is open, nothing is wrong with it, and its path still names it. */
 static void have(struct handle_module *m)
 {
-    if (m->module != NULL && m->why == 0)
+    if (m->module != NULL && m->why == 0 && driver_check(m->module, m->path) == 0)
         return;
     put_away(m, 0);
     if (is_no_image(m->path))

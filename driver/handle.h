@@ -13,10 +13,10 @@
  * Answers: a call returns 0 or more, or minus a number that handle_text has in words: a refusal of drivelog.h, 1 to 99; one of the handle's
  * own, enum handle_number; or HANDLE_SYSTEM plus an errno. A call that the log refuses changes nothing.
  *
- * In step is a module that was there at the last recovery and has carried out every op since, that recovery's included. One whose flush
- * fails, or that is found gone when a force looks for it, is out of step: nothing more is done on it until the next recovery, which repairs
- * it. A drive on one module needs that one in step, a drive on three needs two. With fewer, no call of the log is made any more, and each
- * answers HANDLE_TOO_FEW (a force HANDLE_NOT_DURABLE); what the working image holds can still be read, and handle_recover tries again.
+ * In step is a module that was there at the last recovery, or formatted since, and has carried out every op since, that recovery's included.
+ * One whose flush fails, or that is gone when a force looks for it, is out of step: nothing more is done on it until the next recovery, which
+ * repairs it. A drive on one module needs that one in step, a drive on three needs two. With fewer, no call of the log is made any more, and
+ * each answers HANDLE_TOO_FEW (a force HANDLE_NOT_DURABLE); what the working image holds can still be read, and handle_recover tries again.
  *
  * What is promised on three modules, by the theorem `three-safe` (slip 9, crates/replicas/specs/ThreeSafe.antt), as far as the driver does
  * what it owes (driver.h). If
@@ -26,15 +26,16 @@
  *     - no earlier recovery left its raised epoch on exactly one copy,
  *
  * then every record that a force answered durable, with no release of it begun on any module, is listed after the recovery, whichever
- * module is absent; every record listed was completed, with its kind, length and bytes; and LSNs are consecutive. A force counts only if two
- * modules in step have carried out all its ops, also one that has no ops. That is why it answers durable in no other case.
+ * module is absent; every record listed was completed, with its kind, length and bytes; and the LSNs of the log, released records
+ * included, are consecutive. A force counts only if two modules in step have carried out all its ops, also one that has no ops. That is why
+ * it answers durable in no other case.
  *
  * What is not promised. A release that was carried out on two modules may come undone: the third ties and is chosen. A record that is not
  * durable is listed or not, as its module is there. Two power failures inside repairs can leave one readable copy, and 19 from then on.
  * A module that was replaced, by a blank one or by an older copy, is behind until a recovery has repaired it; of two that are behind at
  * once the theorem says nothing. Where power fails between the first and the second module's last ops of a recovery, its raised epoch may
- * be on exactly one copy: no record is lost as long as that copy is there at the next recovery. On one module the promise is that of
- * drivelog.h.
+ * be on exactly one copy; the theorem says nothing then, and it is wise to have that copy there at the next recovery. On one module the
+ * promise is that of drivelog.h.
  */
 
 #ifndef HANDLE_H
@@ -117,7 +118,8 @@ int64_t handle_recover(struct handle *h);
    module whose size is not that of two others is absent.
 
      Returns the number of the chosen module, 0 to 2; or what drivelog_recover or drivelog_recover_three refuses; or -HANDLE_TOO_FEW if
-   fewer modules than needed have carried out all ops; or, on one module that is absent, minus its number.
+   fewer modules than needed have carried out all ops; or, on one module that is absent, minus its number. Then no call
+   of the log is made until a recovery succeeds.
 */
 
 int64_t handle_append(struct handle *h, uint64_t kind, const void *bytes, size_t count, uint64_t frequency);

@@ -261,9 +261,15 @@ static void other_files(void)
     handle_close(second);
     EXPECT(add("one") == 1);
     make(b, WORDS + 1, 1);
-    EXPECT(handle_recover(&drive) == 0 && drive.modules[1].in_step); /* the file that is open goes on until a force looks */
     EXPECT(add("two") == 2 && drive.modules[1].why == HANDLE_SYSTEM + ESTALE);
     EXPECT(handle_recover(&drive) == 0 && drive.modules[1].why == DRIVELOG_IMAGE_SIZE && drive.modules[1].module == NULL);
+    /* A recovery looks for itself. */
+    make(b, WORDS, 1);
+    EXPECT(handle_recover(&drive) == 0 && drive.modules[1].repaired && drive.modules[1].in_step);
+    make(b, WORDS, 1);
+    EXPECT(handle_recover(&drive) == 0 && drive.modules[1].repaired && drive.modules[1].in_step);
+    make(b, WORDS + 1, 1);
+    EXPECT(handle_recover(&drive) == 0 && drive.modules[1].why == DRIVELOG_IMAGE_SIZE);
     EXPECT(add("three") == 3);
     make(b, 39, 0);
     make(c, DRIVELOG_MAX_IMAGE_WORDS, 1);

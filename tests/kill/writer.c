@@ -5,6 +5,7 @@
  * frequencies 1 to 8, releases of any record, now and then of all, now and then another recovery. A line of the report is written in one
  * piece:
  *
+ *     recovering           a recovery begins
  *     step N               from now on these modules are in step, one bit each
  *     found LSN KIND HEX   a record that the recovery lists ("-" if it is empty)
  *     recovered LSN        the recovery's ops are carried out; the next record gets this LSN
@@ -108,6 +109,7 @@ static void recover(void)
 {
     static struct handle_record record;
     static char hex[MOST_HEX];
+    report("recovering\n");
     int64_t answer = handle_recover(&drive);
     steps = UINT64_MAX;
     open_count = 0;
