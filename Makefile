@@ -11,14 +11,14 @@ tool = target/bin/drivelog
 c_crates = c_query c_read c_write c_three c_vet
 # What the archive is made of: the files of these crates and of all that they stand on.
 c_sources := $(shell tools/sources $(c_crates))
-cli_c = $(wildcard cli/*.c) driver/driver.c
+cli_c = $(wildcard cli/*.c driver/*.c)
 cli_h = $(wildcard cli/*.h driver/*.h include/*.h)
 
 .PHONY: help demo list load lib tool prove test programs reference
 .PHONY: compare compare-calls compare-c compare-why compare-orphans compare-load crash crash-three loss kill bench bench-c speed
 
 help:
-	@echo "make demo          a log in a file, whose writer is killed in the middle, recovered and listed"
+	@echo "make demo          a log in a file, whose writer is killed in the middle, recovered and listed; then one on three modules"
 	@echo "make test          the gate: proofs from nothing, edits that must be refused, all comparisons; .ci/run calls it"
 	@echo "make prove         every function and theorem from nothing, with no program run"
 	@echo "make lib           the calls for C, proved: $(archive), for include/drivelog.h"
@@ -34,7 +34,7 @@ help:
 	@echo "make crash         the crash bench: power failures in random histories, SECONDS=60 SEED=1"
 	@echo "make crash-three   the same for three modules: absent ones, missed ops, power failures, SECONDS=60 SEED=1"
 	@echo "make loss          how many completed records a power failure loses, for F of 1 to 16, SECONDS=60 SEED=1"
-	@echo "make kill          processes killed and modules whose power fails, SECONDS=60 SEED=1"
+	@echo "make kill          processes killed and modules whose power fails, on one module and on three, SECONDS=60 SEED=1"
 	@echo "make bench         how long the calls take beside plain Rust, zlib and libpmemlog, ROUNDS=31"
 	@echo "make speed         how long loglist takes for a full image, beside one in plain Rust"
 
@@ -119,7 +119,7 @@ bench: programs bench-c
 	  --vet target/bench/vet --rounds $(ROUNDS)
 
 append_c = -std=c11 -O2 -Wall -Wextra -Iinclude -Idriver
-append_from = tests/bench/append.c driver/driver.c $(archive)
+append_from = tests/bench/append.c driver/driver.c driver/handle.c $(archive)
 bench-c:
 	mkdir -p target/bench
 	gcc -O2 -Wall -Wextra -o target/bench/crc tests/bench/crc.c -lz

@@ -4,7 +4,7 @@
 #ifndef TOOL_H
 #define TOOL_H
 
-#include "drivelog.h"
+#include "handle.h"
 
 enum status {
     DONE = 0,
@@ -22,16 +22,19 @@ enum {
 enum { COPY_FIRST, COPY_RING, COPY_HEAD_POS, COPY_HEAD_LSN, COPY_EPOCH, COPY_CHECK };
 #define MAX_LSN (((uint64_t)1 << 62) - 1)
 
-/* The command line. */
+/* The command line: FILE as it is given, and the one path or the three that it names. */
 extern const char *path;
+extern char *paths[HANDLE_MODULES];
+extern size_t path_count;
 extern uint64_t wait_seconds;
 
-/* The working image, one word longer than an image can be, so that a file that is too long is refused as one; and the file's size. */
-extern uint64_t image[DRIVELOG_MAX_IMAGE_WORDS + 1], reply[DRIVELOG_REPLY_WORDS];
-extern size_t words;
-extern uint64_t file_bytes;
+/* The log. A command that reads opens no module and has the images alone. */
+extern struct handle drive;
+/* The bytes of each file. */
+extern uint64_t file_bytes[HANDLE_MODULES];
 
-#define REPLY reply, DRIVELOG_REPLY_WORDS
+#define IMAGE drive.images[drive.chosen], drive.words
+#define REPLY drive.reply, DRIVELOG_REPLY_WORDS
 
 /* ---------------------------------------------------------------- message.c */
 
@@ -51,17 +54,21 @@ const char *test_word(uint64_t test);
 const char *test_in_words(uint64_t test);
 /* The refusal in the reply. */
 void say_refusal(void);
-/* What a call answered; a refusal is said and ends the program. */
+/* The refusal in the reply, in words, of the chosen image; the text is in the room, or one that is always there. */
+const char *refusal_in_words(char *text, size_t room);
+/* What a call answered; a refusal, and too few modules, are said and end the program. */
 uint64_t granted(int64_t answer);
+/* Says, once of each, which of three modules are absent or out of step. */
+void say_modules(void);
 /* Ends the program with a refusal that the log would give whatever it holds. */
 _Noreturn void refuse(int number);
 
 /* ---------------------------------------------------------------- read.c */
 
-/* Reads the file into the image. */
-void read_image(void);
+/* Reads the files into the images; of three the chosen one is found. */
+void read_images(void);
 int64_t next(uint64_t *cursor, uint64_t *record);
-/* Whether to try once more to lock the file: errno says that another process has it, and there is time left. */
+/* Whether to try once more to lock the files: errno says that another process has one, and there is time left. */
 int try_again(void);
 
 int list(void);
