@@ -32,16 +32,18 @@ static _Noreturn void fail_with(int status, const char *what)
 
 _Noreturn void fail(const char *what) { fail_with(REFUSED, what); }
 
-_Noreturn void fail_by_system(void)
+const char *system_in_words(int error)
 {
-    switch (errno) {
-    case EWOULDBLOCK: fail_with(OPEN_ELSEWHERE, "another process has it open");
-    case EEXIST: fail("it is there already; format makes a new file");
-    case EISDIR: fail("it is a directory; a log is in a regular file");
-    case ENODEV: fail("it is a FIFO, a device or a socket; a log is in a regular file");
-    default: fail(strerror(errno));
+    switch (error) {
+    case EWOULDBLOCK: return "another process has it open";
+    case EEXIST: return "it is there already; format makes a new file";
+    case EISDIR: return "it is a directory; a log is in a regular file";
+    case ENODEV: return "it is a FIFO, a device or a socket; a log is in a regular file";
+    default: return strerror(error);
     }
 }
+
+_Noreturn void fail_by_system(void) { fail_with(errno == EWOULDBLOCK ? OPEN_ELSEWHERE : REFUSED, system_in_words(errno)); }
 
 _Noreturn void fail_to_read_input(void)
 {
@@ -84,6 +86,8 @@ static uint32_t crc32_of(const uint64_t *from, size_t bytes)
     return ~sum;
 }
 
+int has_its_check(const uint64_t *copy) { return copy[COPY_CHECK] == crc32_of(copy, 8 * COPY_CHECK); }
+
 /* The copy of the superline that the selector names, if the file is long enough to have both. */
 static const uint64_t *active_copy(void)
 {
@@ -94,7 +98,7 @@ static const uint64_t *active_copy(void)
 static int says_other_size(char *text, size_t room)
 {
     const uint64_t *copy = active_copy();
-    if (copy == NULL || copy[COPY_CHECK] != crc32_of(copy, 8 * COPY_CHECK) || copy[COPY_RING] > DRIVELOG_MAX_IMAGE_WORDS)
+    if (copy == NULL || !has_its_check(copy) || copy[COPY_RING] > DRIVELOG_MAX_IMAGE_WORDS)
         return 0;
     uint64_t bytes = 8 * (copy[COPY_RING] + SUPERLINE_WORDS);
     snprintf(text, room, "the log in it has %" PRIu64 " bytes, the file has %" PRIu64 "%s", bytes, file_bytes,
@@ -128,7 +132,7 @@ static const char *superline_in_words(char *text, size_t room)
         return text;
     if (copy == NULL)
         snprintf(text, room, "no log begins here: the selector is %" PRIu64 ", not 0 or 1", image[0]);
-    else if (copy[COPY_CHECK] != crc32_of(copy, 8 * COPY_CHECK))
+    else if (!has_its_check(copy))
         snprintf(text, room, "no log begins here: copy %" PRIu64 " of the superline has a wrong check", image[0]);
     else
         snprintf(text, room, "no log begins here: copy %" PRIu64 " of the superline has a number out of its range", image[0]);
@@ -148,8 +152,7 @@ static const char *argument_in_words(char *text, size_t room)
     return text;
 }
 
-/* The refusal in the reply, in words. */
-static const char *refusal_in_words(char *text, size_t room)
+const char *refusal_in_words(char *text, size_t room)
 {
     uint64_t detail = reply[DRIVELOG_REPLY_DETAIL];
     const char *test = test_in_words(reply[DRIVELOG_REPLY_SECOND]);

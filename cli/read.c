@@ -52,23 +52,30 @@ static int open_and_lock(struct stat *about)
 }
 
 /* At most as many bytes as show that the file is too long. A size that is not whole words is refusal 1 at once. */
-void read_image(void)
+int try_read_image(void)
 {
     struct stat about;
     int file;
     while ((file = open_and_lock(&about)) < 0 && try_again()) {
     }
     if (file < 0)
-        fail_by_system();
+        return -1;
     size_t bytes = 0;
     ssize_t got;
     while ((got = read(file, (char *)image + bytes, sizeof image - bytes)) > 0)
         bytes += (size_t)got;
-    if (got < 0)
-        fail_by_system();
+    int error = errno;
     close(file);
+    errno = error;
     words = bytes % 8 == 0 ? bytes / 8 : 0;
     file_bytes = bytes < sizeof image ? bytes : (uint64_t)about.st_size;
+    return got < 0 ? -1 : 0;
+}
+
+void read_image(void)
+{
+    if (try_read_image() != 0)
+        fail_by_system();
 }
 
 /* Refusals 1 and 4, as loglist prints them; standard error has them in words. */
@@ -114,32 +121,6 @@ int list(void)
         printf("toomany %" PRIu64 "\n", reply[DRIVELOG_REPLY_DETAIL]);
     say_refusal();
     return REFUSED;
-}
-
-/* Damage is an answer here, and no error. */
-int why(uint64_t lsn)
-{
-    uint64_t cursor[DRIVELOG_CURSOR_WORDS], record[DRIVELOG_RECORD_WORDS];
-    int64_t found;
-    open_to_read(cursor);
-    if (lsn < cursor[DRIVELOG_CURSOR_LSN]) {
-        puts("below");
-        return DONE;
-    }
-    while ((found = next(cursor, record)) == 1)
-        if (record[DRIVELOG_RECORD_LSN] == lsn) {
-            puts(record[DRIVELOG_RECORD_MARK] == DRIVELOG_MARK_RELEASED ? "released" : "listed");
-            return DONE;
-        }
-    if (found == 0)
-        puts("end");
-    else if (found == -DRIVELOG_DAMAGED)
-        printf("damaged %" PRIu64 " %s\n", reply[DRIVELOG_REPLY_DETAIL], test_word(reply[DRIVELOG_REPLY_SECOND]));
-    else if (found == -DRIVELOG_TOO_MANY)
-        puts("toomany");
-    else
-        granted(found);
-    return DONE;
 }
 
 /* ---------------------------------------------------------------- info */

@@ -1,5 +1,5 @@
-/* tool.h: what the files of the command-line tool share. drivelog.c has the command line, read.c and write.c the commands, message.c what
- * goes wrong, in words. */
+/* tool.h: what the files of the command-line tool share. drivelog.c has the command line, message.c what goes wrong, in words; read.c,
+ * export.c, check.c, draw.c, write.c and load.c have the commands. */
 
 #ifndef TOOL_H
 #define TOOL_H
@@ -39,8 +39,9 @@ extern uint64_t file_bytes;
 __attribute__((noreturn, format(printf, 1, 2))) void usage(const char *format, ...);
 /* Something is wrong with the file. */
 _Noreturn void fail(const char *what);
-/* The same, for what errno says. */
+/* The same, for what errno says; and that alone, in words. */
 _Noreturn void fail_by_system(void);
+const char *system_in_words(int error);
 /* Standard input cannot be read, and errno says why. */
 _Noreturn void fail_to_read_input(void);
 
@@ -49,8 +50,11 @@ extern uint64_t asked_kind, asked_length, asked_lsn;
 
 const char *test_word(uint64_t test);
 const char *test_in_words(uint64_t test);
-/* The refusal in the reply. */
+/* The refusal in the reply, on standard error; and that alone, in words. */
 void say_refusal(void);
+const char *refusal_in_words(char *text, size_t room);
+/* Whether a copy of the superline has the check of its words. */
+int has_its_check(const uint64_t *copy);
 /* What a call answered; a refusal is said and ends the program. */
 uint64_t granted(int64_t answer);
 /* Ends the program with a refusal that the log would give whatever it holds. */
@@ -58,15 +62,25 @@ _Noreturn void refuse(int number);
 
 /* ---------------------------------------------------------------- read.c */
 
-/* Reads the file into the image. */
+/* Reads the file into the image; the one that tries returns -1 with errno if it cannot be had. */
 void read_image(void);
+int try_read_image(void);
 int64_t next(uint64_t *cursor, uint64_t *record);
 /* Whether to try once more to lock the file: errno says that another process has it, and there is time left. */
 int try_again(void);
 
 int list(void);
-int why(uint64_t lsn);
 int info(void);
+
+/* ---------------------------------------------------------------- export.c, check.c, draw.c, load.c */
+
+enum shape { SHAPE_TEXT, SHAPE_CSV, SHAPE_JSON };
+/* The records of so many files, all kinds for kind 0. */
+int export_files(const char *const *names, int count, enum shape shape, uint64_t kind);
+int check_files(const char *const *names, int count, int verbose);
+int why(const char *name, const uint64_t *lsns, int count);
+int draw_files(const char *const *names, int count);
+int load(const char *listing, const char *name);
 
 /* ---------------------------------------------------------------- write.c */
 

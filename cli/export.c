@@ -1,0 +1,217 @@
+/* export.c: the records of many files in one stream, for programs that take tables: CSV as RFC 4180 has it, JSON lines, or text with
+ * tabs. A row for each listed record, oldest first, and one more for each file, which says how its log ends. */
+
+#define _DEFAULT_SOURCE
+#include "reader.h"
+
+#include <stdio.h>
+#include <string.h>
+
+/* A row has the same eight columns in every shape. */
+static const char *const columns[] = {"file", "what", "lsn", "epoch", "kind", "length", "data", "text"};
+enum { COLUMNS = sizeof columns / sizeof columns[0] };
+
+static enum shape shape;
+
+static void put(const char *text, size_t length) { fwrite_unlocked(text, 1, length, stdout); }
+static void put_word(const char *word) { put(word, strlen(word)); }
+
+/* ---------------------------------------------------------------- values */
+
+static void put_decimal(uint64_t number)
+{
+    char digits[20];
+    size_t at = sizeof digits;
+    do
+        digits[--at] = (char)('0' + number % 10);
+    while ((number /= 10) > 0);
+    put(digits + at, sizeof digits - at);
+}
+
+static void put_hex(const uint8_t *bytes, size_t count)
+{
+    static const char digits[] = "0123456789abcdef";
+    char text[2 * DRIVELOG_MAX_PAYLOAD];
+    for (size_t i = 0; i < count; i++) {
+        text[2 * i] = digits[bytes[i] >> 4];
+        text[2 * i + 1] = digits[bytes[i] & 15];
+    }
+    put(text, 2 * count);
+}
+
+/* What a character of `bytes` bytes, 0 if it is no UTF-8, is written as in this shape, or null if it stays as it is. */
+static const char *escape(const uint8_t *character, size_t bytes, char *room, size_t size)
+{
+    if (shape == SHAPE_CSV)
+        return *character == '"' ? "\"\"" : NULL;
+    switch (*character) {
+    case '\\': return "\\\\";
+    case '\t': return "\\t";
+    case '\n': return "\\n";
+    case '\r': return "\\r";
+    case '"': return shape == SHAPE_JSON ? "\\\"" : NULL;
+    default: break;
+    }
+    if (bytes == 0 && shape == SHAPE_JSON)
+        return "\\ufffd";
+    if (bytes > 0 && is_printable(character, bytes))
+        return NULL;
+    if (shape == SHAPE_JSON && bytes > 1)
+        return NULL;
+    snprintf(room, size, shape == SHAPE_JSON ? "\\u%04x" : "\\x%02x", *character);
+    return room;
+}
+
+static void put_text(const uint8_t *text, size_t length)
+{
+    size_t plain = 0; /* where what was not yet written begins */
+    for (size_t i = 0, bytes; i < length; i += bytes > 0 ? bytes : 1) {
+        char room[8];
+        bytes = shape == SHAPE_CSV ? 1 : character_bytes(text + i, length - i);
+        const char *escaped = escape(text + i, bytes, room, sizeof room);
+        if (escaped == NULL)
+            continue;
+        /* A character that is written as an escape of its first byte goes on with its second. */
+        bytes = 1;
+        put((const char *)text + plain, i - plain);
+        put_word(escaped);
+        plain = i + 1;
+    }
+    put((const char *)text + plain, length - plain);
+}
+
+void put_name(const char *name)
+{
+    shape = SHAPE_TEXT;
+    put_text((const uint8_t *)name, strlen(name));
+}
+
+static void put_quoted(const uint8_t *text, size_t length)
+{
+    if (shape != SHAPE_TEXT)
+        putchar_unlocked('"');
+    put_text(text, length);
+    if (shape != SHAPE_TEXT)
+        putchar_unlocked('"');
+}
+
+/* ---------------------------------------------------------------- rows */
+
+/* What comes before a column's value. */
+static void put_column(int column)
+{
+    if (column > 0)
+        putchar_unlocked(shape == SHAPE_TEXT ? '\t' : ',');
+    if (shape == SHAPE_JSON) {
+        put_word(column == 0 ? "{\"" : "\"");
+        put_word(columns[column]);
+        put_word("\":");
+    }
+}
+
+static void end_row(void) { put_word(shape == SHAPE_CSV ? "\r\n" : shape == SHAPE_JSON ? "}\n" : "\n"); }
+
+static void put_none(int column)
+{
+    put_column(column);
+    if (shape == SHAPE_JSON)
+        put_word("null");
+}
+
+static void put_number(int column, uint64_t number)
+{
+    put_column(column);
+    put_decimal(number);
+}
+
+static void put_string(int column, const char *text)
+{
+    put_column(column);
+    put_quoted((const uint8_t *)text, strlen(text));
+}
+
+static void put_heading(void)
+{
+    if (shape == SHAPE_JSON)
+        return;
+    for (int i = 0; i < COLUMNS; i++) {
+        put_column(i);
+        put_word(columns[i]);
+    }
+    end_row();
+}
+
+static void put_what(const char *what)
+{
+    put_string(0, path);
+    put_column(1);
+    if (shape == SHAPE_JSON)
+        put_quoted((const uint8_t *)what, strlen(what));
+    else
+        put_word(what);
+}
+
+static void put_record(const uint64_t *record)
+{
+    uint8_t payload[DRIVELOG_MAX_PAYLOAD];
+    uint64_t length = record[DRIVELOG_RECORD_LENGTH];
+    copy_payload(record, payload);
+    put_what("record");
+    put_number(2, record[DRIVELOG_RECORD_LSN]);
+    put_number(3, record[DRIVELOG_RECORD_EPOCH]);
+    put_number(4, record[DRIVELOG_RECORD_KIND]);
+    put_number(5, length);
+    put_column(6);
+    if (shape == SHAPE_JSON)
+        putchar_unlocked('"');
+    put_hex(payload, length);
+    if (shape == SHAPE_JSON)
+        putchar_unlocked('"');
+    if (is_printable(payload, length)) {
+        put_column(7);
+        put_quoted(payload, length);
+    } else {
+        put_none(7);
+    }
+    end_row();
+}
+
+/* The last row of a file: LSN and epoch are those of the log's end, where it has one or is stopped; the text says it in words. */
+static void put_ending(const struct reading *reading)
+{
+    char text[200];
+    put_what(ending_word(reading));
+    if (reading->ring > 0) {
+        put_number(2, reading->cursor[DRIVELOG_CURSOR_LSN]);
+        put_number(3, reading->cursor[DRIVELOG_CURSOR_SUPERLINE_EPOCH]);
+    } else {
+        put_none(2);
+        put_none(3);
+    }
+    for (int i = 4; i < COLUMNS - 1; i++)
+        put_none(i);
+    put_string(COLUMNS - 1, ending_in_words(reading, text, sizeof text));
+    end_row();
+}
+
+int export_files(const char *const *names, int count, enum shape asked_shape, uint64_t kind)
+{
+    static struct reading reading;
+    static char buffer[1 << 16];
+    int status = DONE;
+    setvbuf(stdout, buffer, _IOFBF, sizeof buffer);
+    shape = asked_shape;
+    put_heading();
+    for (int i = 0; i < count && !ferror(stdout); i++) {
+        say_progress(i, count);
+        read_log(names[i], &reading);
+        for (uint64_t at = 0; at < reading.count; at++)
+            if (is_listed(reading.records[at]) && (kind == 0 || reading.records[at][DRIVELOG_RECORD_KIND] == kind))
+                put_record(reading.records[at]);
+        put_ending(&reading);
+        say_ending(&reading);
+        status = worse(status, status_of(&reading));
+    }
+    say_progress(count, count);
+    return status;
+}
