@@ -71,9 +71,9 @@ static void say_records(void)
 /* The line of a file. */
 static int say_verdict(uint64_t orphans)
 {
-    char text[200];
     put_name(path);
     if (status_of(&reading) != DONE) {
+        char text[200];
         printf(": NOT WELL: ");
         if (reading.error == 0)
             printf("refused %" PRIu64 ": ", (uint64_t)-reading.found);

@@ -340,6 +340,8 @@ static void take_arguments(const struct command *command, const struct line *lin
     verbose = line->verbose;
     shape_asked = line->shape == NULL || line->shape[2] == 't' ? SHAPE_TEXT : line->shape[2] == 'c' ? SHAPE_CSV : SHAPE_JSON;
     kind_asked = line->kind == NULL ? 0 : option_number(line->kind, "--kind", 1);
+    if (kind_asked > DRIVELOG_MAX_KIND)
+        usage("--kind is 1 to %d, and '%s' is not", DRIVELOG_MAX_KIND, line->kind);
     wait_seconds = line->wait == NULL ? 0 : option_number(line->wait, "--wait", 0);
     frequency = line->frequency == NULL ? 1 : option_number(line->frequency, "-f", 1);
     path = argument[0];
