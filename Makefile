@@ -11,10 +11,19 @@ tool = target/bin/drivelog
 c_crates = c_query c_read c_write c_three
 # What the archive is made of: the files of these crates and of all that they stand on.
 c_sources := $(shell tools/sources $(c_crates))
-cli_c = $(wildcard cli/*.c) driver/driver.c
+cli_c = $(wildcard cli/*.c driver/*.c)
 cli_h = $(wildcard cli/*.h driver/*.h include/*.h)
+# The version has one place, the header.
+version := $(shell sed -n 's/^.define DRIVELOG_VERSION "\(.*\)"$$/\1/p' include/drivelog.h)
+PREFIX ?= /usr/local
+DESTDIR ?=
+# The proved programs that are installed.
+rattle_programs = loglist logload logwhy $(notdir $(wildcard crates/logorphans))
+shared = target/install/libdrivelog.so.$(version)
+driver_shared = target/install/libdrivelog-driver.so.$(version)
+driver_archive = target/install/libdrivelog-driver.a
 
-.PHONY: help demo list load lib tool prove test programs reference
+.PHONY: help demo list load lib tool prove test programs reference shared install uninstall clean
 .PHONY: compare compare-calls compare-c compare-why compare-load crash crash-three kill bench bench-c speed
 
 help:
@@ -23,6 +32,7 @@ help:
 	@echo "make prove         every function and theorem from nothing, with no program run"
 	@echo "make lib           the calls for C, proved: $(archive), for include/drivelog.h"
 	@echo "make tool          the command-line tool $(tool), over that archive and driver/"
+	@echo "make install       archive, shared libraries, headers, programs, pages: PREFIX=/usr/local DESTDIR=; make uninstall removes them"
 	@echo "make list          the records of a sample module, by loglist"
 	@echo "make load          an image made from a sample listing by logload, and listed again"
 	@echo "make compare       all four comparisons with the reference, SCRIPTS=1000 SEED=1:"
@@ -35,16 +45,18 @@ help:
 	@echo "make kill          processes killed and modules whose power fails, SECONDS=60 SEED=1"
 	@echo "make bench         how long the calls take beside plain Rust, zlib and libpmemlog, ROUNDS=31"
 	@echo "make speed         how long loglist takes for a full image, beside one in plain Rust"
-
+	@echo "make clean         removes target/ and reference/target/, and with them what was proved"
 
 demo: tool
 	@tests/cli/demo $(tool)
 
 list:
+	@tools/need list rt
 	tools/rt check loglist
 	target/bin/loglist < crates/loglist/stdin
 
 load:
+	@tools/need load rt
 	tools/rt check logload loglist
 	target/bin/logload < crates/logload/stdin | target/bin/loglist
 
@@ -52,25 +64,70 @@ lib: $(archive)
 
 # tools/archive says how. Says crate by crate how far the proofs are; what the checks say is shown only if one fails.
 $(archive): $(c_sources) crates.txt tools/rt
+	@tools/need lib rt
 	@mkdir -p target
 	@tools/progress target/lib.log $(c_crates) -- tools/archive $(c_crates)
 
 tool: $(tool)
 
 $(tool): $(cli_c) $(cli_h) $(archive)
+	@tools/need tool gcc
 	@mkdir -p target/bin
 	gcc -std=c11 -O2 -Wall -Wextra -Werror -Iinclude -Idriver -o $@ $(cli_c) $(archive)
 
+# The shared libraries: the archive's calls, and the driver, which is not proved, as a library of its own.
+shared: $(shared) $(driver_shared)
+
+$(shared): $(archive)
+	@tools/need shared gcc
+	@mkdir -p target/install
+	gcc -shared -Wl,-soname,libdrivelog.so.$(firstword $(subst ., ,$(version))) -Wl,--no-undefined -o $@ \
+	  -Wl,--whole-archive $(archive) -Wl,--no-whole-archive
+	ln -sfn $(notdir $@) target/install/libdrivelog.so
+
+$(driver_archive): $(wildcard driver/*.c driver/*.h) include/drivelog.h
+	@tools/need install gcc
+	@mkdir -p target/install/driver
+	rm -f target/install/driver/*.o
+	cd target/install/driver && gcc -std=c11 -O2 -fPIC -Wall -Wextra -Werror -I$(CURDIR)/include -I$(CURDIR)/driver -c $(CURDIR)/driver/*.c
+	rm -f $@
+	ar rcs $@ target/install/driver/*.o
+
+$(driver_shared): $(driver_archive) $(shared)
+	gcc -shared -Wl,-soname,libdrivelog-driver.so.$(firstword $(subst ., ,$(version))) -Wl,--no-undefined -o $@ \
+	  -Wl,--whole-archive $(driver_archive) -Wl,--no-whole-archive -Ltarget/install -ldrivelog
+	ln -sfn $(notdir $@) target/install/libdrivelog-driver.so
+
+# The programs that are installed, proved and built.
+target/install/programs: $(shell tools/sources $(rattle_programs)) crates.txt
+	@tools/need install rt
+	@mkdir -p target/install
+	@tools/progress target/install/programs.log $(rattle_programs) -- tools/rt check $(rattle_programs)
+	@touch $@
+
+install: lib tool shared target/install/programs
+	@tools/install "$(PREFIX)" "$(version)" "$(DESTDIR)"
+
+uninstall:
+	@tools/install "$(PREFIX)" "$(version)" "$(DESTDIR)" --remove
+
+clean:
+	rm -rf target reference/target
+
 prove:
+	@tools/need prove rt
 	tools/rt prove
 
 test:
+	@tools/need test rt gcc g++ cargo git python3
 	tests/gate
 
 reference:
+	@tools/need reference cargo
 	cd reference && cargo build --release --offline --quiet
 
 programs: reference
+	@tools/need programs rt
 	tools/rt check replay loglist
 
 compare: compare-calls compare-c compare-why compare-load
@@ -82,10 +139,12 @@ compare-c: lib reference
 	tests/c/run $(SEED) $(SCRIPTS)
 
 compare-why: reference
+	@tools/need compare-why rt
 	tools/rt check logwhy
 	$(reference) why target/bin/logwhy $(SEED) $(SCRIPTS)
 
 compare-load: reference
+	@tools/need compare-load rt
 	tools/rt check logload loglist
 	$(reference) load target/bin/logload target/bin/loglist $(SEED) $(SCRIPTS)
 
@@ -101,7 +160,8 @@ kill: lib
 speed: programs
 	$(reference) time target/bin/loglist reference/target/release/plain_loglist
 
-# Each case by turns, as `make lib bench ROUNDS=101`. Where libpmemlog or the archive of `make lib` is not there, a line says so.
+# Each case by turns, as `make lib bench ROUNDS=101`. What cannot be built here (zlib's header, libpmemlog, libpmem, the archive of `make lib`)
+# is left out with a line.
 bench: programs bench-c
 	tools/rt check bench
 	cd reference && cargo build --profile plain --offline --quiet --bin plain_bench
@@ -111,15 +171,18 @@ bench: programs bench-c
 
 append_c = -std=c11 -O2 -Wall -Wextra -Iinclude -Idriver
 append_from = tests/bench/append.c driver/driver.c $(archive)
+has_zlib = echo '\#include <zlib.h>' | gcc -E - > /dev/null 2>&1
 bench-c:
+	@tools/need bench gcc
 	mkdir -p target/bench
-	gcc -O2 -Wall -Wextra -o target/bench/crc tests/bench/crc.c -lz
-	rm -f target/bench/calls target/bench/append target/bench/append-pmem target/bench/pmemlog target/bench/three
-	if [ -e $(archive) ]; then \
+	rm -f target/bench/crc target/bench/calls target/bench/append target/bench/append-pmem target/bench/pmemlog target/bench/three
+	if $(has_zlib); then gcc -O2 -Wall -Wextra -o target/bench/crc tests/bench/crc.c -lz; \
+	else echo "zlib.h is not installed (Debian: zlib1g-dev), so zlib's CRC-32 and the calls for C are left out"; fi
+	if [ -e $(archive) ] && $(has_zlib); then \
 	  gcc -O2 -Wall -Wextra -Iinclude -o target/bench/calls tests/bench/calls.c $(archive) -lz && \
 	  gcc -O2 -Wall -Wextra -Iinclude -o target/bench/three tests/bench/three.c $(archive) -lz && \
 	  gcc $(append_c) -o target/bench/append $(append_from) -lz; fi
-	if [ -e $(archive) ] && pkg-config --exists libpmem; then \
+	if [ -e $(archive) ] && $(has_zlib) && pkg-config --exists libpmem; then \
 	  gcc $(append_c) -DDRIVER_PMEM -o target/bench/append-pmem $(append_from) -lz $$(pkg-config --cflags --libs libpmem); fi
 	if pkg-config --exists libpmemlog; then \
 	  gcc -O2 -Wall -Wextra -o target/bench/pmemlog tests/bench/pmemlog.c $$(pkg-config --cflags --libs libpmemlog); fi

@@ -75,6 +75,7 @@ static int run_check(const struct command *command) { return (void)command, chec
 static int run_draw(const struct command *command) { return (void)command, draw_files(given, given_count); }
 static int run_info(const struct command *command) { return (void)command, info(); }
 static int run_format(const struct command *command) { return format(number(command, 1)); }
+static int run_load(const struct command *command) { return (void)command, load(argument[0], argument[1]); }
 static int run_append(const struct command *command) { return append(number(command, 1), argument[2]); }
 static int run_write(const struct command *command) { return (void)command, write_lines(frequency); }
 static int run_release(const struct command *command) { return release(number(command, 1)); }
@@ -109,6 +110,9 @@ static const struct command commands[] = {
     {"format", {"FILE", "WORDS"}, 0, run_format,
      "a new file with an empty log, 40 to 8192 words of 8 bytes. The file gets its name\n"
      "      when it is whole; one that is there already is not touched"},
+    {"load", {"LISTING", "FILE"}, 0, run_load,
+     "a new file of 8192 words with the records of a listing, as list prints it; '-' is\n"
+     "      standard input. The program logload, beside this one, reads the listing"},
     {"append", {"FILE", "KIND", "[TEXT]"}, TAKES_WAIT, run_append,
      "one record, durable at once. The payload is TEXT, or standard input to its end,\n"
      "      byte for byte; at most 1024 bytes"},
@@ -199,7 +203,7 @@ static int say_help(const struct command *command)
     puts("drivelog: a crash-safe log of records in a file\n\nreading:");
     for (int i = 0; i < COMMANDS; i++) {
         if (i == READING_COMMANDS)
-            puts("writing; all but format recover first, as a drive does at power-up:");
+            puts("writing; all but format and load recover first, as a drive does at power-up:");
         say_command(&commands[i]);
     }
     puts("  drivelog [COMMAND] --help\n  drivelog --version");
