@@ -24,7 +24,7 @@ driver_shared = target/install/libdrivelog-driver.so.$(version)
 driver_archive = target/install/libdrivelog-driver.a
 
 .PHONY: help demo list load lib tool prove test programs reference shared install uninstall clean
-.PHONY: compare compare-calls compare-c compare-why compare-load crash crash-three kill bench bench-c speed
+.PHONY: compare compare-calls compare-c compare-why compare-load crash crash-three kill bench bench-c bench-export speed
 
 help:
 	@echo "make demo          a log in a file, whose writer is killed in the middle, recovered and listed"
@@ -44,6 +44,7 @@ help:
 	@echo "make crash-three   the same for three modules: absent ones, missed ops, power failures, SECONDS=60 SEED=1"
 	@echo "make kill          processes killed and modules whose power fails, SECONDS=60 SEED=1"
 	@echo "make bench         how long the calls take beside plain Rust, zlib and libpmemlog, ROUNDS=31"
+	@echo "make bench-export  how long drivelog export takes for 1,000 files, beside plain Rust, ROUNDS=31"
 	@echo "make speed         how long loglist takes for a full image, beside one in plain Rust"
 	@echo "make clean         removes target/ and reference/target/, and with them what was proved"
 
@@ -168,6 +169,11 @@ bench: programs bench-c
 	$(reference) bench target/bin/bench reference/target/plain/plain_bench target/bench/crc target/bench/pmemlog \
 	  --calls target/bench/calls --append target/bench/append --append-pmem target/bench/append-pmem --three target/bench/three \
 	  --rounds $(ROUNDS)
+
+bench-export: tool
+	@tools/need bench-export cargo python3
+	cd reference && cargo build --profile plain --offline --quiet --bin plain_export
+	tests/bench/export $(tool) reference/target/plain/plain_export $(ROUNDS)
 
 append_c = -std=c11 -O2 -Wall -Wextra -Iinclude -Idriver
 append_from = tests/bench/append.c driver/driver.c $(archive)

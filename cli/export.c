@@ -31,19 +31,34 @@ static void put_decimal(uint64_t number)
 static void put_hex(const uint8_t *bytes, size_t count)
 {
     static const char digits[] = "0123456789abcdef";
+    static char pairs[256][2]; /* both digits of each byte */
     char text[2 * DRIVELOG_MAX_PAYLOAD];
-    for (size_t i = 0; i < count; i++) {
-        text[2 * i] = digits[bytes[i] >> 4];
-        text[2 * i + 1] = digits[bytes[i] & 15];
+    for (int i = 0; i < 256 && pairs[255][0] == 0; i++) {
+        pairs[i][1] = digits[i & 15];
+        pairs[i][0] = digits[i >> 4];
     }
+    for (size_t i = 0; i < count; i++)
+        memcpy(text + 2 * i, pairs[bytes[i]], 2);
     put(text, 2 * count);
 }
 
-/* What a character of `bytes` bytes, 0 if it is no UTF-8, is written as in this shape, or null if it stays as it is. */
+/* CSV has a quote twice, and all else as it is. */
+static void put_csv(const char *text, size_t length)
+{
+    const char *quote;
+    while ((quote = memchr(text, '"', length)) != NULL) {
+        size_t part = (size_t)(quote + 1 - text);
+        put(text, part);
+        putchar_unlocked('"');
+        text += part;
+        length -= part;
+    }
+    put(text, length);
+}
+
+/* What a character of `bytes` bytes, 0 if it is no UTF-8, is written as in JSON or text, or null if it stays as it is. */
 static const char *escape(const uint8_t *character, size_t bytes, char *room, size_t size)
 {
-    if (shape == SHAPE_CSV)
-        return *character == '"' ? "\"\"" : NULL;
     switch (*character) {
     case '\\': return "\\\\";
     case '\t': return "\\t";
@@ -65,9 +80,13 @@ static const char *escape(const uint8_t *character, size_t bytes, char *room, si
 static void put_text(const uint8_t *text, size_t length)
 {
     size_t plain = 0; /* where what was not yet written begins */
+    if (shape == SHAPE_CSV) {
+        put_csv((const char *)text, length);
+        return;
+    }
     for (size_t i = 0, bytes; i < length; i += bytes > 0 ? bytes : 1) {
         char room[8];
-        bytes = shape == SHAPE_CSV ? 1 : character_bytes(text + i, length - i);
+        bytes = character_bytes(text + i, length - i);
         const char *escaped = escape(text + i, bytes, room, sizeof room);
         if (escaped == NULL)
             continue;

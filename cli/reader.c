@@ -219,9 +219,21 @@ size_t character_bytes(const uint8_t *text, size_t left)
     return 0;
 }
 
+/* Whether eight bytes are ASCII with no control character: each is 32 to 126, and nothing is carried from one to the next. */
+static int is_plain(const uint8_t *text)
+{
+    const uint64_t each = 0x0101010101010101;
+    uint64_t eight;
+    memcpy(&eight, text, sizeof eight);
+    return ((eight | (eight - 0x20 * each) | (eight + each)) & 0x80 * each) == 0;
+}
+
 int is_printable(const uint8_t *text, size_t length)
 {
     for (size_t i = 0, bytes; i < length; i += bytes) {
+        bytes = 8;
+        if (length - i >= bytes && is_plain(text + i))
+            continue;
         bytes = character_bytes(text + i, length - i);
         int control = text[i] < ' ' || text[i] == 0x7F || (bytes == 2 && text[i] == 0xC2 && text[i + 1] < 0xA0);
         if (bytes == 0 || (control && text[i] != '\t' && text[i] != '\n' && text[i] != '\r'))

@@ -12,6 +12,7 @@ mod load;
 mod query;
 mod scan;
 mod state;
+mod table;
 mod three;
 
 pub use calls::{complete, copy, force, format, recover, release, reserve};
@@ -20,6 +21,7 @@ pub use list::list;
 pub use load::load;
 pub use query::{listed, Listed};
 pub use state::{Entry, Stage, State};
+pub use table::{table, TABLE_HEADING};
 pub use three::{recover_three, RecoveredThree};
 
 /// `count` items of a ring from `start` on: those up to its end, and those that go round.
