@@ -13,7 +13,35 @@ enum { COLUMNS = sizeof columns / sizeof columns[0] };
 
 static enum shape shape;
 
-static void put(const char *text, size_t length) { fwrite_unlocked(text, 1, length, stdout); }
+/* What is to be written, until it fills this room: a row is many small pieces. */
+static char waiting[1 << 16];
+static size_t waiting_bytes;
+
+static void write_waiting(void)
+{
+    fwrite(waiting, 1, waiting_bytes, stdout);
+    waiting_bytes = 0;
+}
+
+static void put(const char *text, size_t length)
+{
+    if (length > sizeof waiting - waiting_bytes)
+        write_waiting();
+    if (length > sizeof waiting) {
+        fwrite(text, 1, length, stdout);
+        return;
+    }
+    memcpy(waiting + waiting_bytes, text, length);
+    waiting_bytes += length;
+}
+
+static void put_char(char character)
+{
+    if (waiting_bytes == sizeof waiting)
+        write_waiting();
+    waiting[waiting_bytes++] = character;
+}
+
 static void put_word(const char *word) { put(word, strlen(word)); }
 
 /* ---------------------------------------------------------------- values */
@@ -28,17 +56,28 @@ static void put_decimal(uint64_t number)
     put(digits + at, sizeof digits - at);
 }
 
+/* The eight hex digits of four bytes, all at once: each half byte gets a byte of its own, and becomes '0' to '9' or 'a' to 'f'. */
+static uint64_t hex_of(uint32_t four)
+{
+    const uint64_t each = 0x0101010101010101;
+    uint64_t halves = four;
+    halves = (halves | halves << 16) & 0x0000FFFF0000FFFF;
+    halves = (halves | halves << 8) & 0x00FF00FF00FF00FF;
+    halves = (halves >> 4 & 0x000F000F000F000F) | (halves & 0x000F000F000F000F) << 8;
+    uint64_t letters = (halves + 6 * each) >> 4 & each;
+    return halves + '0' * each + ('a' - '9' - 1) * letters;
+}
+
+/* The bytes have room for every payload, so that four can be read at once. */
 static void put_hex(const uint8_t *bytes, size_t count)
 {
-    static const char digits[] = "0123456789abcdef";
-    static char pairs[256][2]; /* both digits of each byte */
     char text[2 * DRIVELOG_MAX_PAYLOAD];
-    for (int i = 0; i < 256 && pairs[255][0] == 0; i++) {
-        pairs[i][1] = digits[i & 15];
-        pairs[i][0] = digits[i >> 4];
+    for (size_t i = 0; i < count; i += 4) {
+        uint32_t four;
+        memcpy(&four, bytes + i, sizeof four);
+        uint64_t digits = hex_of(four);
+        memcpy(text + 2 * i, &digits, sizeof digits);
     }
-    for (size_t i = 0; i < count; i++)
-        memcpy(text + 2 * i, pairs[bytes[i]], 2);
     put(text, 2 * count);
 }
 
@@ -49,7 +88,7 @@ static void put_csv(const char *text, size_t length)
     while ((quote = memchr(text, '"', length)) != NULL) {
         size_t part = (size_t)(quote + 1 - text);
         put(text, part);
-        putchar_unlocked('"');
+        put_char('"');
         text += part;
         length -= part;
     }
@@ -103,15 +142,16 @@ void put_name(const char *name)
 {
     shape = SHAPE_TEXT;
     put_text((const uint8_t *)name, strlen(name));
+    write_waiting();
 }
 
 static void put_quoted(const uint8_t *text, size_t length)
 {
     if (shape != SHAPE_TEXT)
-        putchar_unlocked('"');
+        put_char('"');
     put_text(text, length);
     if (shape != SHAPE_TEXT)
-        putchar_unlocked('"');
+        put_char('"');
 }
 
 /* ---------------------------------------------------------------- rows */
@@ -120,7 +160,7 @@ static void put_quoted(const uint8_t *text, size_t length)
 static void put_column(int column)
 {
     if (column > 0)
-        putchar_unlocked(shape == SHAPE_TEXT ? '\t' : ',');
+        put_char(shape == SHAPE_TEXT ? '\t' : ',');
     if (shape == SHAPE_JSON) {
         put_word(column == 0 ? "{\"" : "\"");
         put_word(columns[column]);
@@ -172,7 +212,7 @@ static void put_what(const char *what)
 
 static void put_record(const uint64_t *record)
 {
-    uint8_t payload[DRIVELOG_MAX_PAYLOAD];
+    static uint8_t payload[DRIVELOG_MAX_PAYLOAD];
     uint64_t length = record[DRIVELOG_RECORD_LENGTH];
     copy_payload(record, payload);
     put_what("record");
@@ -182,10 +222,10 @@ static void put_record(const uint64_t *record)
     put_number(5, length);
     put_column(6);
     if (shape == SHAPE_JSON)
-        putchar_unlocked('"');
+        put_char('"');
     put_hex(payload, length);
     if (shape == SHAPE_JSON)
-        putchar_unlocked('"');
+        put_char('"');
     if (is_printable(payload, length)) {
         put_column(7);
         put_quoted(payload, length);
@@ -216,9 +256,7 @@ static void put_ending(const struct reading *reading)
 int export_files(const char *const *names, int count, enum shape asked_shape, uint64_t kind)
 {
     static struct reading reading;
-    static char buffer[1 << 16];
     int status = DONE;
-    setvbuf(stdout, buffer, _IOFBF, sizeof buffer);
     shape = asked_shape;
     put_heading();
     for (int i = 0; i < count && !ferror(stdout); i++) {
@@ -228,9 +266,12 @@ int export_files(const char *const *names, int count, enum shape asked_shape, ui
             if (is_listed(reading.records[at]) && (kind == 0 || reading.records[at][DRIVELOG_RECORD_KIND] == kind))
                 put_record(reading.records[at]);
         put_ending(&reading);
+        if (status_of(&reading) != DONE)
+            write_waiting();
         say_ending(&reading);
         status = worse(status, status_of(&reading));
     }
+    write_waiting();
     say_progress(count, count);
     return status;
 }

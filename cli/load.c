@@ -85,10 +85,10 @@ static size_t answer_of(const char *logload, int listing, char *answer, size_t r
 static _Noreturn void refuse_listing(uint64_t number)
 {
     char text[200];
-    const char *why = number == LISTING_FORM  ? "a line of the listing is not in its form, or the end line is missing"
+    const char *cause = number == LISTING_FORM  ? "a line of the listing is not in its form, or the end line is missing"
                       : number == LISTING_LSN ? "an LSN of the listing is not the next one"
                                               : drivelog_refusal_text((int64_t)number);
-    snprintf(text, sizeof text, "refused %" PRIu64 ": %s", number, why);
+    snprintf(text, sizeof text, "refused %" PRIu64 ": %s", number, cause);
     fail(text);
 }
 
