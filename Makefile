@@ -27,7 +27,7 @@ driver_archive = target/install/libdrivelog-driver.a
 .PHONY: compare compare-calls compare-c compare-why compare-load crash crash-three kill bench bench-c bench-export speed
 
 help:
-	@echo "make demo          a log in a file, whose writer is killed in the middle, recovered and listed"
+	@echo "make demo          a log in a file, whose writer is killed in the middle, recovered and listed; then one on three modules"
 	@echo "make test          the gate: proofs from nothing, edits that must be refused, all comparisons; .ci/run calls it"
 	@echo "make prove         every function and theorem from nothing, with no program run"
 	@echo "make lib           the calls for C, proved: $(archive), for include/drivelog.h"
@@ -42,7 +42,7 @@ help:
 	@echo "  compare-load     logload, and loglist on what it writes"
 	@echo "make crash         the crash bench: power failures in random histories, SECONDS=60 SEED=1"
 	@echo "make crash-three   the same for three modules: absent ones, missed ops, power failures, SECONDS=60 SEED=1"
-	@echo "make kill          processes killed and modules whose power fails, SECONDS=60 SEED=1"
+	@echo "make kill          processes killed and modules whose power fails, on one module and on three, SECONDS=60 SEED=1"
 	@echo "make bench         how long the calls take beside plain Rust, zlib and libpmemlog, ROUNDS=31"
 	@echo "make bench-export  how long drivelog export takes for 1,000 files, beside plain Rust, ROUNDS=31"
 	@echo "make speed         how long loglist takes for a full image, beside one in plain Rust"
@@ -176,7 +176,7 @@ bench-export: tool
 	tests/bench/export $(tool) reference/target/plain/plain_export $(ROUNDS)
 
 append_c = -std=c11 -O2 -Wall -Wextra -Iinclude -Idriver
-append_from = tests/bench/append.c driver/driver.c $(archive)
+append_from = tests/bench/append.c driver/driver.c driver/handle.c $(archive)
 has_zlib = echo '\#include <zlib.h>' | gcc -E - > /dev/null 2>&1
 bench-c:
 	@tools/need bench gcc

@@ -68,6 +68,15 @@ static void say_records(void)
         printf(", %" PRIu64 " released", released);
 }
 
+/* Of three modules, those that are absent or differ from the chosen one. */
+static int modules_apart(void)
+{
+    int apart = 0;
+    for (size_t i = 0; path_count == HANDLE_MODULES && i < HANDLE_MODULES; i++)
+        apart += drive.modules[i].why != 0 || drive.modules[i].repaired;
+    return apart;
+}
+
 /* The line of a file. */
 static int say_verdict(uint64_t orphans)
 {
@@ -85,8 +94,10 @@ static int say_verdict(uint64_t orphans)
         puts("");
         return status_of(&reading);
     }
-    int well = reading.after == 0 && orphans == 0;
+    int apart = modules_apart(), well = reading.after == 0 && orphans == 0 && apart == 0;
     fputs(well ? ": well: " : ": NOT WELL: ", stdout);
+    if (apart > 0)
+        printf("%d of %d modules %s absent or differ%s from the chosen one; ", apart, HANDLE_MODULES, apart == 1 ? "is" : "are", apart == 1 ? "s" : "");
     if (reading.after > 0) {
         say_after_end();
         fputs("; ", stdout);
@@ -102,9 +113,9 @@ static int say_verdict(uint64_t orphans)
 
 static void say_superline(void)
 {
-    uint64_t active = image[0];
+    uint64_t active = chosen_image()[0];
     printf("  superline  copy %" PRIu64 ", which the selector names: its first word, ring, head, epoch and check are right\n", active);
-    const uint64_t *spare = image + COPY_WORDS * (2 - active);
+    const uint64_t *spare = chosen_image() + COPY_WORDS * (2 - active);
     printf("  spare copy copy %" PRIu64 ": ", 1 - active);
     if (has_its_check(spare))
         printf("its check is right; head LSN %" PRIu64 " at position %" PRIu64 ", epoch %" PRIu64 "\n", spare[COPY_HEAD_LSN],
@@ -145,14 +156,14 @@ static void say_details(uint64_t orphans)
     if (reading.error != 0)
         return;
     int wrong_size = reading.found == -DRIVELOG_IMAGE_SIZE;
-    printf("  size       %" PRIu64 " bytes: %s\n", file_bytes, wrong_size ? "no image's" : "right");
+    printf("  size       %" PRIu64 " bytes: %s\n", file_bytes[drive.chosen], wrong_size ? "no image's" : "right");
     if (reading.ring == 0) {
         if (!wrong_size)
             puts("  superline  wrong: the log cannot be read");
         return;
     }
     uint64_t lsn = reading.cursor[DRIVELOG_CURSOR_LSN], pos = reading.cursor[DRIVELOG_CURSOR_POS];
-    printf("  words      %zu, of which the ring has %" PRIu64 "\n", words, reading.ring);
+    printf("  words      %zu, of which the ring has %" PRIu64 "\n", drive.words, reading.ring);
     say_superline();
     printf("  head       LSN %" PRIu64 " at position %" PRIu64 "\n", reading.head_lsn, reading.head_pos);
     printf("  records    %" PRIu64 " listed, %" PRIu64 " released: mark, kind, length, fit, LSN, check and epoch of each are right\n",
@@ -161,7 +172,7 @@ static void say_details(uint64_t orphans)
         printf("  end        LSN %" PRIu64 " at position %" PRIu64 "\n", lsn, pos);
     else
         printf("  stopped    LSN %" PRIu64 " at position %" PRIu64 ": %s\n", lsn, pos,
-               reading.found == -DRIVELOG_DAMAGED ? test_in_words(reply[DRIVELOG_REPLY_SECOND]) : "one record too many");
+               reading.found == -DRIVELOG_DAMAGED ? test_in_words(drive.reply[DRIVELOG_REPLY_SECOND]) : "one record too many");
     if (reading.found == 0 && reading.after == 0)
         puts("  after end  no whole record");
     for (uint64_t i = reading.count; i < reading.count + reading.after; i++) {
@@ -216,7 +227,7 @@ static void say_found(const uint64_t *record)
 static void say_not_found(uint64_t lsn)
 {
     uint64_t at = reading.cursor[DRIVELOG_CURSOR_LSN];
-    const char *test = test_in_words(reply[DRIVELOG_REPLY_SECOND]);
+    const char *test = test_in_words(drive.reply[DRIVELOG_REPLY_SECOND]);
     if (lsn < reading.head_lsn)
         printf("is not listed: it is below the head, LSN %" PRIu64 ": %s\n", reading.head_lsn,
                lsn == 0 ? "LSNs begin with 1" : "it was released, or the log began later");

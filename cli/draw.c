@@ -60,8 +60,8 @@ static void read_one(struct drawn *file, const char *name)
     read_log(name, &file->reading);
     look_after_end(&file->reading);
     file->name = name;
-    file->count = file->reading.ring > 0 ? words : 0;
-    memcpy(file->words, image, 8 * file->count);
+    file->count = file->reading.ring > 0 ? drive.words : 0;
+    memcpy(file->words, chosen_image(), 8 * file->count);
     for (uint64_t i = 0; i < file->reading.count + file->reading.after; i++) {
         add(kinds, &kind_count, file->reading.records[i][DRIVELOG_RECORD_KIND]);
         add(epochs, &epoch_count, file->reading.records[i][DRIVELOG_RECORD_EPOCH]);
@@ -356,7 +356,15 @@ static int legend_height(void)
 
 int draw_files(const char *const *names, int count)
 {
+    static char *three[MOST_FILES];
     int status = DONE;
+    name_files(names[0]);
+    if (count == 1 && path_count == HANDLE_MODULES) {
+        for (count = 0; count < MOST_FILES; count++)
+            if ((three[count] = strdup(paths[count])) == NULL)
+                fail("there is no memory for its name");
+        names = (const char *const *)three;
+    }
     file_count = count;
     for (int i = 0; i < count; i++) {
         read_one(&files[i], names[i]);

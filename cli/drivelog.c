@@ -1,13 +1,14 @@
 /* drivelog: a log in a file, from the command line. `drivelog --help` says what it does.
  *
- * It is built on the proved calls of include/drivelog.h and on driver/driver.h, which carries their ops out. This file has the command line;
- * tool.h says where the commands are. */
+ * It is built on the proved calls of include/drivelog.h and on driver/handle.h, by which their ops are carried out. This file has the command
+ * line; tool.h says where the commands are. */
 
 #define _DEFAULT_SOURCE
 #include "tool.h"
 
 #include <errno.h>
 #include <fcntl.h>
+#include <limits.h>
 #include <signal.h>
 #include <stdio.h>
 #include <stdlib.h>
@@ -16,10 +17,11 @@
 #include <unistd.h>
 
 const char *path;
+char *paths[HANDLE_MODULES];
+size_t path_count;
 uint64_t wait_seconds;
-uint64_t image[DRIVELOG_MAX_IMAGE_WORDS + 1], reply[DRIVELOG_REPLY_WORDS];
-size_t words;
-uint64_t file_bytes;
+struct handle drive;
+uint64_t file_bytes[HANDLE_MODULES];
 
 /* ---------------------------------------------------------------- the commands */
 
@@ -89,7 +91,8 @@ static const struct command commands[] = {
      "why each of these records is listed or not, in a sentence (logwhy has bare words)"},
     {"info", {"FILE"}, TAKES_WAIT, run_info,
      "head, end, epoch, records, room, and the ring in one line: H head, # listed,\n"
-     "      r released, E end, . free; X damage, and then ? for what nobody knows"},
+     "      r released, E end, . free; X damage, and then ? for what nobody knows. Of three\n"
+     "      modules first a line each: its epoch, its end, what differs, which is chosen"},
     {"export", {"FILE.."}, TAKES_SHAPE | TAKES_KIND | TAKES_WAIT, run_export,
      "the records of many files as one table: file, what, lsn, epoch, kind, length, data in\n"
      "      hex, and the text, if the payload is UTF-8 with no control characters but tabs and\n"
@@ -108,8 +111,8 @@ static const struct command commands[] = {
      "      whole records after the end, epochs as shades. Two or three files are copies of one\n"
      "      log, drawn beside each other with what differs. '-' is standard input"},
     {"format", {"FILE", "WORDS"}, 0, run_format,
-     "a new file with an empty log, 40 to 8192 words of 8 bytes. The file gets its name\n"
-     "      when it is whole; one that is there already is not touched"},
+     "a new file with an empty log, or three, 40 to 8192 words of 8 bytes. A file gets its\n"
+     "      name when it is whole; one that is there already is not touched"},
     {"load", {"LISTING", "FILE"}, 0, run_load,
      "a new file of 8192 words with the records of a listing, as list prints it; '-' is\n"
      "      standard input. The program logload, beside this one, reads the listing"},
@@ -156,6 +159,9 @@ static void say_command(const struct command *command)
 
 static const char conventions[] =
     "\n"
+    "FILE is one module, or three, as A,B,C: a name with two commas. Of three, one that is\n"
+    "not there is said on standard error, and the command goes on if two can be read. What\n"
+    "two have carried out is durable; every command that writes repairs the third.\n"
     "A kind is 1 to 65535. Options may be anywhere; after -- an argument may begin with '-'.\n"
     "A file is for one writing process, or several reading ones, at a time: another is kept\n"
     "out, at once or after it has waited SECONDS for its turn. Nothing is said to be durable\n"
@@ -178,6 +184,7 @@ static const char examples[] =
     "  printf '2 8.7 A\\n2 9.1 A\\n' | drivelog write module.log -f 8\n"
     "  drivelog list module.log\n"
     "  drivelog release module.log 1 --wait 5\n"
+    "  drivelog format a.log,b.log,c.log 1024\n"
     "  drivelog check -v copies/*.log\n"
     "  drivelog export --csv copies/*.log > copies.csv\n"
     "  drivelog draw module.log > module.svg\n";
@@ -186,7 +193,8 @@ static const char examples[] =
 static void say_refusals(void)
 {
     static const int numbers[] = {DRIVELOG_IMAGE_SIZE,    DRIVELOG_ARGUMENT,   DRIVELOG_SUPERLINE, DRIVELOG_NOT_LIVE, DRIVELOG_WRONG_STAGE,
-                                  DRIVELOG_NUMBERS_SPENT, DRIVELOG_TABLE_FULL, DRIVELOG_NO_ROOM,   DRIVELOG_DAMAGED,  DRIVELOG_TOO_MANY};
+                                  DRIVELOG_NUMBERS_SPENT, DRIVELOG_TABLE_FULL, DRIVELOG_NO_ROOM,   DRIVELOG_DAMAGED,  DRIVELOG_TOO_MANY,
+                                  DRIVELOG_TOO_FEW_COPIES};
     puts("\nrefused:");
     for (size_t i = 0; i < sizeof numbers / sizeof numbers[0]; i++)
         printf("  %-2d %s\n", numbers[i], drivelog_refusal_text(numbers[i]));
@@ -321,6 +329,26 @@ static void need_option(const struct command *command, int option, const char *n
         usage("%s has no option %s", command->name, name);
 }
 
+void name_files(const char *name)
+{
+    static char names[3 * PATH_MAX];
+    size_t length = strlen(name);
+    path = name;
+    path_count = 1;
+    paths[0] = (char *)path;
+    const char *first = strchr(path, ','), *second = first == NULL ? NULL : strchr(first + 1, ',');
+    if (second == NULL || strchr(second + 1, ',') != NULL || length >= sizeof names)
+        return;
+    if (first == path || second == first + 1 || second[1] == '\0')
+        return;
+    memcpy(names, path, length + 1);
+    names[first - path] = names[second - path] = '\0';
+    path_count = HANDLE_MODULES;
+    paths[0] = names;
+    paths[1] = names + (first + 1 - path);
+    paths[2] = names + (second + 1 - path);
+}
+
 static void take_arguments(const struct command *command, const struct line *line)
 {
     int most = 0, more = 0;
@@ -348,25 +376,43 @@ static void take_arguments(const struct command *command, const struct line *lin
         usage("--kind is 1 to %d, and '%s' is not", DRIVELOG_MAX_KIND, line->kind);
     wait_seconds = line->wait == NULL ? 0 : option_number(line->wait, "--wait", 0);
     frequency = line->frequency == NULL ? 1 : option_number(line->frequency, "-f", 1);
-    path = argument[0];
+    name_files(argument[0]);
+}
+
+/* Whether a file that is open, or another name, is one of the log's own files. */
+static int is_file(const char *name, const struct stat *other)
+{
+    struct stat log;
+    return stat(name, &log) == 0 && S_ISREG(log.st_mode) && log.st_dev == other->st_dev && log.st_ino == other->st_ino;
 }
 
 /* Whether a standard stream writes to a log's own file: what is printed there would get into the log. */
-static int writes_to_log(const char *name, int stream)
+static int writes_to_log(int stream)
 {
-    struct stat log, other;
-    if (stat(name, &log) != 0 || !S_ISREG(log.st_mode) || fstat(stream, &other) != 0)
-        return 0;
-    return log.st_dev == other.st_dev && log.st_ino == other.st_ino;
+    struct stat other;
+    int found = 0;
+    for (size_t i = 0; fstat(stream, &other) == 0 && i < path_count; i++)
+        found |= is_file(paths[i], &other);
+    return found;
 }
 
-static void need_other_streams(const char *name)
+/* Three modules that are three files. */
+static void need_three_files(void)
 {
-    int output = writes_to_log(name, STDOUT_FILENO), error = writes_to_log(name, STDERR_FILENO);
+    struct stat other;
+    for (size_t i = 1; i < path_count; i++)
+        for (size_t j = 0; j < i; j++)
+            if (strcmp(paths[i], paths[j]) == 0 || (stat(paths[i], &other) == 0 && is_file(paths[j], &other)))
+                fail("two of the three modules are one file");
+}
+
+static void need_other_streams(void)
+{
+    int output = writes_to_log(STDOUT_FILENO), error = writes_to_log(STDERR_FILENO);
     if (!output && !error)
         return;
     if (!output || !error)
-        fprintf(output ? stderr : stdout, "drivelog: %s: standard %s is the log's own file\n", name, output ? "output" : "error");
+        fprintf(output ? stderr : stdout, "drivelog: %s: standard %s is the log's own file\n", path, output ? "output" : "error");
     exit(REFUSED);
 }
 
@@ -375,10 +421,13 @@ static void need_other_files(const struct command *command)
 {
     const char *name = command->arguments[0];
     for (int i = 0; i < given_count && strstr(name, "FILE") != NULL; i++) {
-        need_other_streams(given[i]);
+        name_files(given[i]);
+        need_other_streams();
+        need_three_files();
         if (i + 1 < MOST_ARGUMENTS && command->arguments[i + 1] != NULL)
             name = command->arguments[i + 1];
     }
+    name_files(argument[0]);
 }
 
 static int run(int count, char **words_of_line)

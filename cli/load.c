@@ -112,7 +112,9 @@ int load(const char *listing, const char *name)
 {
     static uint64_t loaded[DRIVELOG_MAX_IMAGE_WORDS + 1], ops[DRIVELOG_OP_WORDS * (DRIVELOG_MAX_IMAGE_WORDS + 1)];
     uint64_t cursor[DRIVELOG_CURSOR_WORDS], record[DRIVELOG_RECORD_WORDS], answer[DRIVELOG_REPLY_WORDS], number, count = 0;
-    path = name;
+    name_files(name);
+    if (path_count != 1)
+        fail("load makes one module; format and write make three");
     const char *logload = program();
     size_t length = answer_of(logload, open_listing(listing), (char *)loaded, sizeof loaded);
     const char *text = (const char *)loaded;

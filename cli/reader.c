@@ -51,13 +51,14 @@ void say_progress(int done, int count)
 
 /* ---------------------------------------------------------------- a file */
 
-/* As many bytes of standard input as an image has, or one word more, which shows that it is too long. */
+/* As many bytes of standard input as an image has, or one more, which shows that it is too long. */
 static int read_input(void)
 {
-    size_t bytes = 0;
+    size_t bytes = 0, room = sizeof drive.images[0];
     ssize_t got = 1;
-    while (got > 0 && bytes < sizeof image) {
-        got = read(STDIN_FILENO, (char *)image + bytes, sizeof image - bytes);
+    char beyond;
+    while (got > 0 && bytes <= room) {
+        got = bytes < room ? read(STDIN_FILENO, (char *)drive.images[0] + bytes, room - bytes) : read(STDIN_FILENO, &beyond, 1);
         if (got < 0 && errno == EINTR)
             got = 1;
         else if (got < 0)
@@ -65,8 +66,10 @@ static int read_input(void)
         else
             bytes += (size_t)got;
     }
-    words = bytes % 8 == 0 ? bytes / 8 : 0;
-    file_bytes = bytes;
+    drive.chosen = 0;
+    drive.words = bytes % 8 == 0 ? bytes / 8 : 0;
+    drive.reply[DRIVELOG_REPLY_NUMBER] = 0;
+    file_bytes[0] = bytes;
     return 0;
 }
 
@@ -77,14 +80,14 @@ void look_after_end(struct reading *reading)
     uint64_t cursor[DRIVELOG_CURSOR_WORDS], answer[DRIVELOG_REPLY_WORDS];
     if (reading->error != 0 || reading->found != 0)
         return;
-    memcpy(marked, image, 8 * words);
+    memcpy(marked, chosen_image(), 8 * drive.words);
     memcpy(cursor, reading->cursor, sizeof cursor);
     for (uint64_t at = reading->count; at < sizeof reading->records / sizeof reading->records[0]; at++) {
         uint64_t *record = reading->records[at], *first = &marked[SUPERLINE_WORDS + cursor[DRIVELOG_CURSOR_POS]];
         int unmarked = *first >> MARK_SHIFT == DRIVELOG_MARK_NONE;
         if (unmarked)
             *first |= (uint64_t)DRIVELOG_MARK_COMMITTED << MARK_SHIFT;
-        if (drivelog_next(marked, words, cursor, DRIVELOG_CURSOR_WORDS, record, DRIVELOG_RECORD_WORDS, answer, DRIVELOG_REPLY_WORDS) != 1)
+        if (drivelog_next(marked, drive.words, cursor, DRIVELOG_CURSOR_WORDS, record, DRIVELOG_RECORD_WORDS, answer, DRIVELOG_REPLY_WORDS) != 1)
             return;
         if (unmarked)
             record[DRIVELOG_RECORD_MARK] = DRIVELOG_MARK_NONE;
@@ -96,17 +99,20 @@ void look_after_end(struct reading *reading)
 void read_log(const char *name, struct reading *reading)
 {
     memset(reading, 0, offsetof(struct reading, records));
-    path = name;
-    words = 0;
-    if ((strcmp(name, "-") == 0 ? read_input() : try_read_image()) != 0) {
+    name_files(name);
+    drive.words = 0;
+    if ((strcmp(name, "-") == 0 ? read_input() : try_read_images()) != 0) {
         reading->error = errno;
         return;
     }
+    say_modules();
     uint64_t *cursor = reading->cursor;
-    reading->found = drivelog_open(image, words, cursor, DRIVELOG_CURSOR_WORDS, REPLY);
+    reading->found = -(int64_t)drive.reply[DRIVELOG_REPLY_NUMBER];
+    if (reading->found == 0)
+        reading->found = drivelog_open(IMAGE, cursor, DRIVELOG_CURSOR_WORDS, REPLY);
     if (reading->found < 0)
         return;
-    reading->ring = words - SUPERLINE_WORDS;
+    reading->ring = drive.words - SUPERLINE_WORDS;
     reading->head_pos = cursor[DRIVELOG_CURSOR_POS];
     reading->head_lsn = cursor[DRIVELOG_CURSOR_LSN];
     while ((reading->found = next(cursor, reading->records[reading->count])) == 1)
@@ -165,7 +171,7 @@ uint64_t size_words(const uint64_t *record) { return 3 + (record[DRIVELOG_RECORD
 void copy_payload(const uint64_t *record, uint8_t *payload)
 {
     uint64_t answer[DRIVELOG_REPLY_WORDS];
-    drivelog_fetch(image, words, record[DRIVELOG_RECORD_POS], record[DRIVELOG_RECORD_LENGTH], payload, DRIVELOG_MAX_PAYLOAD, answer,
+    drivelog_fetch(IMAGE, record[DRIVELOG_RECORD_POS], record[DRIVELOG_RECORD_LENGTH], payload, DRIVELOG_MAX_PAYLOAD, answer,
                    DRIVELOG_REPLY_WORDS);
 }
 

@@ -6,7 +6,7 @@
 
 #include "tool.h"
 
-/* What reading a file found. Its words are in `image` until the next one is read. */
+/* What reading a file, or the three modules of a log, found. The words are in the chosen image until the next one is read. */
 struct reading {
     int error;     /* errno if the file cannot be had, else 0 */
     int64_t found; /* 0 at the log's end; minus the number of the refusal that stopped it */

@@ -4,7 +4,7 @@
 #ifndef TOOL_H
 #define TOOL_H
 
-#include "drivelog.h"
+#include "handle.h"
 
 enum status {
     DONE = 0,
@@ -22,16 +22,19 @@ enum {
 enum { COPY_FIRST, COPY_RING, COPY_HEAD_POS, COPY_HEAD_LSN, COPY_EPOCH, COPY_CHECK };
 #define MAX_LSN (((uint64_t)1 << 62) - 1)
 
-/* The command line. */
+/* The command line: FILE as it is given, and the one path or the three that it names. */
 extern const char *path;
+extern char *paths[HANDLE_MODULES];
+extern size_t path_count;
 extern uint64_t wait_seconds;
 
-/* The working image, one word longer than an image can be, so that a file that is too long is refused as one; and the file's size. */
-extern uint64_t image[DRIVELOG_MAX_IMAGE_WORDS + 1], reply[DRIVELOG_REPLY_WORDS];
-extern size_t words;
-extern uint64_t file_bytes;
+/* The log. A command that reads opens no module and has the images alone. */
+extern struct handle drive;
+/* The bytes of each file. */
+extern uint64_t file_bytes[HANDLE_MODULES];
 
-#define REPLY reply, DRIVELOG_REPLY_WORDS
+#define IMAGE drive.images[drive.chosen], drive.words
+#define REPLY drive.reply, DRIVELOG_REPLY_WORDS
 
 /* ---------------------------------------------------------------- message.c */
 
@@ -50,23 +53,27 @@ extern uint64_t asked_kind, asked_length, asked_lsn;
 
 const char *test_word(uint64_t test);
 const char *test_in_words(uint64_t test);
-/* The refusal in the reply, on standard error; and that alone, in words. */
+/* The refusal in the reply, on standard error. */
 void say_refusal(void);
+/* The same in words alone, of the chosen image; the text is in the room, or one that is always there. */
 const char *refusal_in_words(char *text, size_t room);
-/* Whether a copy of the superline has the check of its words. */
+/* The chosen image, and whether a copy of a superline has the check of its words. */
+const uint64_t *chosen_image(void);
 int has_its_check(const uint64_t *copy);
-/* What a call answered; a refusal is said and ends the program. */
+/* What a call answered; a refusal, and too few modules, are said and end the program. */
 uint64_t granted(int64_t answer);
+/* Says, once of each, which of three modules are absent or out of step. */
+void say_modules(void);
 /* Ends the program with a refusal that the log would give whatever it holds. */
 _Noreturn void refuse(int number);
 
 /* ---------------------------------------------------------------- read.c */
 
-/* Reads the file into the image; the one that tries returns -1 with errno if it cannot be had. */
-void read_image(void);
-int try_read_image(void);
+/* Reads the files into the images; of three the chosen one is found. The one that tries returns -1 with errno if they cannot be had. */
+void read_images(void);
+int try_read_images(void);
 int64_t next(uint64_t *cursor, uint64_t *record);
-/* Whether to try once more to lock the file: errno says that another process has it, and there is time left. */
+/* Whether to try once more to lock the files: errno says that another process has one, and there is time left. */
 int try_again(void);
 
 int list(void);
@@ -93,6 +100,8 @@ int recover(void);
 
 /* ---------------------------------------------------------------- drivelog.c */
 
+/* Makes FILE the one that commands are about: it names three modules if it has two commas and a name beside each. */
+void name_files(const char *name);
 /* The decimal number below 2^64 at the front of so many characters, digits only: how many digits it has, 0 if it is none. */
 size_t read_number(const char *text, size_t length, uint64_t *value);
 

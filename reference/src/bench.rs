@@ -46,7 +46,7 @@ pub struct Programs<'a> {
     /// These need not be there.
     pub pmemlog: Option<&'a Path>,
     pub calls: Option<&'a Path>,
-    /// An append through the calls for C, and the same with the driver that stands on libpmem.
+    /// An append through the calls for C and through the handle, and the same with the driver that stands on libpmem.
     pub append: Option<&'a Path>,
     pub append_pmem: Option<&'a Path>,
     /// The recovery of three modules through the calls for C.
@@ -306,6 +306,7 @@ pub fn bench(programs: &Programs, rounds: usize, out: &mut impl Write) -> Result
     }
     boundary(programs, rounds, out)?;
     three_modules(programs, rounds, out)?;
+    through_the_handle(programs, rounds, out)?;
     on_a_module(programs, rounds, out)
 }
 
@@ -505,6 +506,41 @@ fn three_modules(programs: &Programs, rounds: usize, out: &mut impl Write) -> Re
         row.extend(if case.job == RECOVER_ONE { no_bar() } else { bar(c / plain, 1.2) });
         row.push(ratio(of_one));
         row.extend(if case.job == RECOVER_THREE { bar(of_one, 3.3) } else { no_bar() });
+        table.row(row);
+    }
+    table.print(out)
+}
+
+/// An append through the handle on a module in /dev/shm, beside the calls that it makes, and on three modules.
+fn through_the_handle(
+    programs: &Programs,
+    rounds: usize,
+    out: &mut impl Write,
+) -> Result<(), Failure> {
+    let Some(path) = programs.append.filter(|path| path.exists()) else {
+        let built = "it is built where target/lib/libdrivelog.a is, which `make lib` writes";
+        return skipped("append through the handle", programs.append, built, out);
+    };
+    let modes: [&[&str]; 4] = [&["checked"], &["handle"], &["three"], &["carried"]];
+    let four = modes.map(|args| Program { path, args, variables: &[] });
+    let cases: Vec<(Case, &[Program])> = [(64, 0), (64, 60), (64, 250), (1_024, 0), (1_024, 60)]
+        .map(|(bytes, live)| (Case { job: APPEND, bytes, live, words: LARGEST }, &four[..]))
+        .to_vec();
+    let mut table = Table::new(
+        "Append through the handle on modules in /dev/shm, beside the calls that it makes: four of the log, driver_carry, and driver_check after a durable force.",
+        &[
+            "bytes", "live", "calls ns", "handle ns", "ratio", "bar", "", "three modules ns", "to one", "bar", "",
+            "calls without driver_check ns",
+        ],
+    );
+    for ((case, _), medians) in cases.iter().zip(medians(&cases, rounds)?) {
+        let [calls, handle, three, unchecked] = medians[..] else { continue };
+        let mut row = vec![grouped(case.bytes), grouped(case.live)];
+        row.extend([ns(calls), ns(handle), ratio(handle / calls)]);
+        row.extend(bar(handle / calls, 1.05));
+        row.extend([ns(three), ratio(three / handle)]);
+        row.extend(bar(three / handle, 3.2));
+        row.push(ns(unchecked));
         table.row(row);
     }
     table.print(out)
