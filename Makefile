@@ -96,7 +96,7 @@ $(driver_archive): $(wildcard driver/*.c driver/*.h) include/drivelog.h
 
 $(driver_shared): $(driver_archive) $(shared)
 	gcc -shared -Wl,-soname,libdrivelog-driver.so.$(firstword $(subst ., ,$(version))) -Wl,--no-undefined -o $@ \
-	  -Wl,--whole-archive $(driver_archive) -Wl,--no-whole-archive -Ltarget/install -ldrivelog
+	  -Wl,--whole-archive $(driver_archive) -Wl,--no-whole-archive -Ltarget/install -ldrivelog -Wl,-rpath,'$$ORIGIN'
 	ln -sfn $(notdir $@) target/install/libdrivelog-driver.so
 
 # The programs that are installed, proved and built.

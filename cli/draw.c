@@ -356,10 +356,10 @@ static int legend_height(void)
 
 int draw_files(const char *const *names, int count)
 {
-    static char *three[MOST_FILES];
     int status = DONE;
     name_files(names[0]);
     if (count == 1 && path_count == HANDLE_MODULES) {
+        static char *three[MOST_FILES];
         for (count = 0; count < MOST_FILES; count++)
             if ((three[count] = strdup(paths[count])) == NULL)
                 fail("there is no memory for its name");
