@@ -122,12 +122,11 @@ int64_t handle_open(struct handle *h, char *const *paths, size_t count)
 }
 
 /* Takes back what was made, if its path still names it. */
-static int64_t unmake(struct handle *h, size_t count, int64_t answer)
+static void unmake(struct handle_module *m)
 {
-    for (size_t i = 0; i < count; i++)
-        if (driver_check(h->modules[i].module, h->modules[i].path) == 0)
-            remove(h->modules[i].path);
-    return answer;
+    if (driver_check(m->module, m->path) == 0)
+        remove(m->path);
+    put_away(m, 0);
 }
 
 int64_t handle_format(struct handle *h, char *const *paths, size_t count, size_t words)
@@ -139,8 +138,9 @@ int64_t handle_format(struct handle *h, char *const *paths, size_t count, size_t
     for (size_t i = 0; answer == 0 && i < h->module_count; i++) {
         take(&h->modules[i], driver_make(paths[i], words, h->ops[0], h->reply[DRIVELOG_REPLY_OPS]));
         h->modules[i].in_step = h->modules[i].module != NULL;
-        if (!h->modules[i].in_step)
-            answer = unmake(h, i, -h->modules[i].why);
+        answer = -h->modules[i].why;
+        for (size_t made = 0; answer < 0 && made < i; made++)
+            unmake(&h->modules[made]);
     }
     return answer;
 }

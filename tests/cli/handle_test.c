@@ -286,6 +286,20 @@ static void other_files(void)
     free(second);
 }
 
+/* New modules, all or none. */
+static void formats(void)
+{
+    handle_close(&drive);
+    unlink(a);
+    unlink(b);
+    EXPECT(handle_format(&drive, paths, 3, WORDS) == -HANDLE_SYSTEM - EEXIST && drive.modules[2].why == HANDLE_SYSTEM + EEXIST);
+    EXPECT(access(a, F_OK) != 0 && access(b, F_OK) != 0 && access(c, F_OK) == 0 && add("no") == -HANDLE_TOO_FEW);
+    unlink(c);
+    EXPECT(handle_format(&drive, paths, 3, 39) == -DRIVELOG_IMAGE_SIZE && handle_format(&drive, paths, 2, WORDS) == -DRIVELOG_ARGUMENT);
+    EXPECT(handle_format(&drive, paths, 3, WORDS) == 0 && handle_check(&drive) == 3 && add("one") == 1);
+    EXPECT(handle_recover(&drive) == 0 && strcmp(listed(), "1:one ") == 0 && !drive.modules[1].repaired);
+}
+
 static void texts(void)
 {
     for (int64_t number = 1; number <= 19; number++)
@@ -309,6 +323,7 @@ int main(int count, char **argument)
     absent();
     failing_modules();
     other_files();
+    formats();
     texts();
     handle_close(&drive);
     for (size_t i = 0; i < HANDLE_MODULES; i++)
