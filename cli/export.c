@@ -68,17 +68,19 @@ static uint64_t hex_of(uint32_t four)
     return halves + '0' * each + ('a' - '9' - 1) * letters;
 }
 
-/* The bytes have room for every payload, so that four can be read at once. */
+/* The bytes have room for every payload, so that four can be read at once; the digits go straight to where they wait. */
 static void put_hex(const uint8_t *bytes, size_t count)
 {
-    char text[2 * DRIVELOG_MAX_PAYLOAD];
+    if (sizeof waiting - waiting_bytes < 2 * DRIVELOG_MAX_PAYLOAD)
+        write_waiting();
+    char *text = waiting + waiting_bytes;
     for (size_t i = 0; i < count; i += 4) {
         uint32_t four;
         memcpy(&four, bytes + i, sizeof four);
         uint64_t digits = hex_of(four);
         memcpy(text + 2 * i, &digits, sizeof digits);
     }
-    put(text, 2 * count);
+    waiting_bytes += 2 * count;
 }
 
 /* CSV has a quote twice, and all else as it is. */
