@@ -32,16 +32,18 @@ static _Noreturn void fail_with(int status, const char *what)
 
 _Noreturn void fail(const char *what) { fail_with(REFUSED, what); }
 
-_Noreturn void fail_by_system(void)
+const char *system_in_words(int error)
 {
-    switch (errno) {
-    case EWOULDBLOCK: fail_with(OPEN_ELSEWHERE, "another process has it open");
-    case EEXIST: fail("it is there already; format makes a new file");
-    case EISDIR: fail("it is a directory; a log is in a regular file");
-    case ENODEV: fail("it is a FIFO, a device or a socket; a log is in a regular file");
-    default: fail(strerror(errno));
+    switch (error) {
+    case EWOULDBLOCK: return "another process has it open";
+    case EEXIST: return "it is there already; format makes a new file";
+    case EISDIR: return "it is a directory; a log is in a regular file";
+    case ENODEV: return "it is a FIFO, a device or a socket; a log is in a regular file";
+    default: return strerror(error);
     }
 }
+
+_Noreturn void fail_by_system(void) { fail_with(errno == EWOULDBLOCK ? OPEN_ELSEWHERE : REFUSED, system_in_words(errno)); }
 
 _Noreturn void fail_to_read_input(void)
 {
@@ -84,21 +86,23 @@ static uint32_t crc32_of(const uint64_t *from, size_t bytes)
     return ~sum;
 }
 
-/* The chosen image, and the bytes of its file. */
-static const uint64_t *image(void) { return drive.images[drive.chosen]; }
+int has_its_check(const uint64_t *copy) { return copy[COPY_CHECK] == crc32_of(copy, 8 * COPY_CHECK); }
+
+const uint64_t *chosen_image(void) { return drive.images[drive.chosen]; }
+/* The bytes of its file. */
 static uint64_t bytes_of_file(void) { return file_bytes[drive.chosen]; }
 
 /* The copy of the superline that the selector names, if the file is long enough to have both. */
 static const uint64_t *active_copy(void)
 {
-    return bytes_of_file() >= 8 * SUPERLINE_WORDS && image()[0] <= 1 ? image() + COPY_WORDS * (1 + image()[0]) : NULL;
+    return bytes_of_file() >= 8 * SUPERLINE_WORDS && chosen_image()[0] <= 1 ? chosen_image() + COPY_WORDS * (1 + chosen_image()[0]) : NULL;
 }
 
 /* Whether the superline is good and says another size than the file has; `text` then says both. */
 static int says_other_size(char *text, size_t room)
 {
     const uint64_t *copy = active_copy();
-    if (copy == NULL || copy[COPY_CHECK] != crc32_of(copy, 8 * COPY_CHECK) || copy[COPY_RING] > DRIVELOG_MAX_IMAGE_WORDS)
+    if (copy == NULL || !has_its_check(copy) || copy[COPY_RING] > DRIVELOG_MAX_IMAGE_WORDS)
         return 0;
     uint64_t bytes = 8 * (copy[COPY_RING] + SUPERLINE_WORDS), in_file = bytes_of_file();
     snprintf(text, room, "the log in it has %" PRIu64 " bytes, the file has %" PRIu64 "%s", bytes, in_file,
@@ -119,7 +123,7 @@ static const char *size_in_words(char *text, size_t room)
 static int all_zero(void)
 {
     for (size_t i = 0; i < drive.words; i++)
-        if (image()[i] != 0)
+        if (chosen_image()[i] != 0)
             return 0;
     return 1;
 }
@@ -132,11 +136,11 @@ static const char *superline_in_words(char *text, size_t room)
     if (says_other_size(text, room))
         return text;
     if (copy == NULL)
-        snprintf(text, room, "no log begins here: the selector is %" PRIu64 ", not 0 or 1", image()[0]);
-    else if (copy[COPY_CHECK] != crc32_of(copy, 8 * COPY_CHECK))
-        snprintf(text, room, "no log begins here: copy %" PRIu64 " of the superline has a wrong check", image()[0]);
+        snprintf(text, room, "no log begins here: the selector is %" PRIu64 ", not 0 or 1", chosen_image()[0]);
+    else if (!has_its_check(copy))
+        snprintf(text, room, "no log begins here: copy %" PRIu64 " of the superline has a wrong check", chosen_image()[0]);
     else
-        snprintf(text, room, "no log begins here: copy %" PRIu64 " of the superline has a number out of its range", image()[0]);
+        snprintf(text, room, "no log begins here: copy %" PRIu64 " of the superline has a number out of its range", chosen_image()[0]);
     return text;
 }
 
@@ -201,8 +205,8 @@ static const char *cause_in_words(int cause)
     switch (cause) {
     case HANDLE_SYSTEM + EINVAL: return "its size was changed while it was open";
     case HANDLE_ALTERED: return "another program wrote to it while it was open";
-    case HANDLE_SYSTEM + EISDIR: return "it is a directory; a log is in a regular file";
-    case HANDLE_SYSTEM + ENODEV: return "it is a FIFO, a device or a socket; a log is in a regular file";
+    case HANDLE_SYSTEM + EISDIR: return system_in_words(EISDIR);
+    case HANDLE_SYSTEM + ENODEV: return system_in_words(ENODEV);
     default: return handle_text(cause);
     }
 }
@@ -210,6 +214,10 @@ static const char *cause_in_words(int cause)
 void say_modules(void)
 {
     static int said[HANDLE_MODULES];
+    static const char *said_of;
+    if (said_of != path)
+        memset(said, 0, sizeof said);
+    said_of = path;
     for (size_t i = 0; path_count == HANDLE_MODULES && i < HANDLE_MODULES; i++) {
         int cause = drive.modules[i].why;
         if (cause != 0 && cause != said[i])

@@ -98,7 +98,7 @@ static void choose_image(void)
     drive.reply[DRIVELOG_REPLY_NUMBER] = answer < 0 ? (uint64_t)-answer : 0;
 }
 
-void read_images(void)
+int try_read_images(void)
 {
     drive.module_count = path_count;
     drive.chosen = 0;
@@ -106,17 +106,21 @@ void read_images(void)
     while (!(had = read_files()) && try_again()) {
     }
     if (!had)
-        fail_by_system();
+        return -1;
     if (path_count == HANDLE_MODULES) {
         choose_image();
-        return;
+        return 0;
     }
-    if (drive.modules[0].why != 0) {
-        errno = drive.modules[0].why - HANDLE_SYSTEM;
-        fail_by_system();
-    }
+    errno = drive.modules[0].why - HANDLE_SYSTEM;
     drive.words = drive.modules[0].words;
     drive.reply[DRIVELOG_REPLY_NUMBER] = 0;
+    return drive.modules[0].why != 0 ? -1 : 0;
+}
+
+void read_images(void)
+{
+    if (try_read_images() != 0)
+        fail_by_system();
 }
 
 /* Refusals 1 and 4, of three modules 19, as loglist prints them; standard error has them in words. */
@@ -207,33 +211,6 @@ int orphans(void)
         listed[count++] = record[DRIVELOG_RECORD_LSN];
     }
     return end_of_listing(found);
-}
-
-/* Damage is an answer here, and no error. */
-int why(uint64_t lsn)
-{
-    uint64_t cursor[DRIVELOG_CURSOR_WORDS], record[DRIVELOG_RECORD_WORDS];
-    int64_t found;
-    read_images();
-    open_to_read(cursor);
-    if (lsn < cursor[DRIVELOG_CURSOR_LSN]) {
-        puts("below");
-        return DONE;
-    }
-    while ((found = next(cursor, record)) == 1)
-        if (record[DRIVELOG_RECORD_LSN] == lsn) {
-            puts(record[DRIVELOG_RECORD_MARK] == DRIVELOG_MARK_RELEASED ? "released" : "listed");
-            return DONE;
-        }
-    if (found == 0)
-        puts("end");
-    else if (found == -DRIVELOG_DAMAGED)
-        printf("damaged %" PRIu64 " %s\n", drive.reply[DRIVELOG_REPLY_DETAIL], test_word(drive.reply[DRIVELOG_REPLY_SECOND]));
-    else if (found == -DRIVELOG_TOO_MANY)
-        puts("toomany");
-    else
-        granted(found);
-    return DONE;
 }
 
 /* ---------------------------------------------------------------- info */

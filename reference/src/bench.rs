@@ -278,8 +278,9 @@ pub fn bench(programs: &Programs, rounds: usize, out: &mut impl Write) -> Result
         .into_iter()
         .flatten()
     {
-        // Some are in two tables.
-        if !cases.iter().any(|(other, _)| other == case) {
+        // Some are in two tables, and what a program that is not there would do is left out.
+        let there = case.job != CRC || programs.crc.exists();
+        if there && !cases.iter().any(|(other, _)| other == case) {
             cases.push((*case, if case.job == CRC { &checks } else { &pair }));
         }
     }
@@ -292,7 +293,11 @@ pub fn bench(programs: &Programs, rounds: usize, out: &mut impl Write) -> Result
     let times: Times = cases.iter().map(|(case, _)| *case).zip(medians).collect();
 
     print_appends(&appends, &times, out)?;
-    print_crcs(&crcs, &times, out)?;
+    if programs.crc.exists() {
+        print_crcs(&crcs, &times, out)?;
+    } else {
+        skipped("the CRC-32", Some(programs.crc), "it is built where zlib's header is", out)?;
+    }
     print_full_images(&full_images, &times, out)?;
     print_scan_growth(&scan_growth, &times, out)?;
     print_append_growth(&append_growth, &times, out)?;
