@@ -162,6 +162,8 @@ static uint64_t new_record(void)
     uint64_t kind = 1 + below(65535);
     record->lsn = next_lsn;
     record->length = below(longest[below(8)] + 1);
+    if (kind == DRIVELOG_REPLACEMENT_KIND && record->length < DRIVELOG_NAME_BYTES)
+        kind++; /* reserve declines such a record */
     record->copied = 0;
     for (size_t i = 0; i < record->length; i++)
         record->payload[i] = (uint8_t)below(256);
