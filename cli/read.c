@@ -1,7 +1,7 @@
 /* read.c: the commands that read. They make no op and leave the file as it is. */
 
 #define _DEFAULT_SOURCE
-#include "tool.h"
+#include "reader.h"
 
 #include <errno.h>
 #include <fcntl.h>
@@ -15,7 +15,6 @@
 #include <unistd.h>
 
 enum {
-    REPLACEMENT = 600,    /* the kind of a record that reports a replacement */
     RING_DRAWN = 64,      /* characters of the ring's line */
     MAX_WAIT = 1000000000 /* seconds: for ever */
 };
@@ -173,19 +172,6 @@ int list(void)
         puts(length == 0 ? "-" : "");
     }
     return end_of_listing(found);
-}
-
-/* The LSN that a record names, 0 for none: a replacement's first 8 bytes, little-endian. */
-static uint64_t named_by(const uint64_t *record)
-{
-    uint8_t payload[DRIVELOG_MAX_PAYLOAD];
-    uint64_t length = record[DRIVELOG_RECORD_LENGTH], named = 0;
-    if (record[DRIVELOG_RECORD_KIND] != REPLACEMENT || length < 8)
-        return 0;
-    granted(drivelog_fetch(IMAGE, record[DRIVELOG_RECORD_POS], length, payload, sizeof payload, REPLY));
-    for (int i = 7; i >= 0; i--)
-        named = named << 8 | payload[i];
-    return named;
 }
 
 static int is_one_of(uint64_t lsn, const uint64_t *lsns, size_t count)

@@ -10,7 +10,7 @@
 #include <time.h>
 #include <unistd.h>
 
-enum { REPLACEMENT = 600, MARK_SHIFT = 48 };
+enum { MARK_SHIFT = 48 };
 
 /* ---------------------------------------------------------------- progress */
 
@@ -175,16 +175,22 @@ void copy_payload(const uint64_t *record, uint8_t *payload)
                    DRIVELOG_REPLY_WORDS);
 }
 
+uint64_t named_by(const uint64_t *record)
+{
+    uint8_t payload[DRIVELOG_MAX_PAYLOAD];
+    uint64_t named = 0;
+    if (record[DRIVELOG_RECORD_KIND] != DRIVELOG_REPLACEMENT_KIND || record[DRIVELOG_RECORD_LENGTH] < DRIVELOG_NAME_BYTES)
+        return 0;
+    copy_payload(record, payload);
+    for (int i = DRIVELOG_NAME_BYTES - 1; i >= 0; i--)
+        named = named << 8 | payload[i];
+    return named;
+}
+
 uint64_t missing_inspection(const struct reading *reading, uint64_t index)
 {
     const uint64_t *record = reading->records[index];
-    uint8_t payload[DRIVELOG_MAX_PAYLOAD];
-    uint64_t named = 0;
-    if (!is_listed(record) || record[DRIVELOG_RECORD_KIND] != REPLACEMENT || record[DRIVELOG_RECORD_LENGTH] < 8)
-        return 0;
-    copy_payload(record, payload);
-    for (int i = 7; i >= 0; i--)
-        named = named << 8 | payload[i];
+    uint64_t named = is_listed(record) ? named_by(record) : 0;
     for (uint64_t i = 0; i < index; i++)
         if (is_listed(reading->records[i]) && reading->records[i][DRIVELOG_RECORD_LSN] == named)
             return 0;

@@ -36,7 +36,8 @@ int is_listed(const uint64_t *record);
 uint64_t size_words(const uint64_t *record);
 /* Copies a record's payload, which has room for every payload. */
 void copy_payload(const uint64_t *record, uint8_t *payload);
-/* Of a kind 600 record, the LSN that it names in its first 8 bytes though no earlier listed record has it; else 0. */
+/* The LSN that a replacement names in its first 8 bytes, 0 of any other record; and that, though no earlier listed record has it. */
+uint64_t named_by(const uint64_t *record);
 uint64_t missing_inspection(const struct reading *reading, uint64_t index);
 
 /* Words that are free, of a log that has an end; and the longest payload that a new record can have, -1 if there can be none. */
