@@ -32,7 +32,8 @@ use Rattle.journal.specs.CrashSafe.{System, withHeld, withReturned, Event, call
 use Rattle.journal.specs.Effect.{done, noState}
 use Rattle.journal.specs.Force.{markStore, markStores, markFlushes, forceOps, commitFrom, forceState, firstOpen, forceStretch, hasMultiple, isDeferred, forceEffect}
 use Rattle.journal.specs.Recover.{formatOps, freshState, formatEffect, restOf, fillTable, recoverOpsOf, recoverStateOf, recoverOps, recoverState, recoverEffect}
-use Rattle.journal.specs.Release.{firstHeld, posOf, freeEntries, headAt, headOps, markReleased, releaseOps, releaseState, releaseEffect}
+use Rattle.journal.specs.Release.{firstHolder, firstHeld, posOf, freeEntries, headAt, headOps, markReleased, releaseOps, releaseState, releaseEffect}
+use Rattle.scan.specs.Names.{names, namesOne}
 use Rattle.journal.specs.Stores.{stores, flushRing, superlineOps}
 use Rattle.scratch.specs.Vet.{isAmong, belongsFrom, isFreeWord, vet}
 use Rattle.scratch.specs.ScratchSafe.{Passed, ReadBefore, PassedOpsHarmless, ScratchEvent, event, passed, crashed, afterScratch, afterScratches, AllFitScratch, ScratchSafe}
@@ -97,7 +98,8 @@ unfolding leBytes wordBytes crcBit crcBits crcByte crcOver crc32 sizeOf word0 ma
     after afterAll formatted markStore markStores markFlushes forceOps commitFrom forceState firstOpen forceStretch
     hasMultiple isDeferred forceEffect formatOps freshState formatEffect restOf fillTable recoverOpsOf recoverStateOf
     recoverOps recoverState recoverEffect firstHeld posOf freeEntries headAt headOps markReleased releaseOps
-    releaseState releaseEffect stores flushRing superlineOps isAmong belongsFrom isFreeWord vet isIn mayHold isLeft
+    releaseState releaseEffect firstHolder names namesOne stores flushRing superlineOps isAmong belongsFrom isFreeWord
+    vet isIn mayHold isLeft
     afterScratch afterScratches calls written noted crashedThen recovered history final
 evaluated = (refl, refl, refl, refl, refl, refl, refl, refl, refl, refl, refl, refl, refl, refl, refl)
 
