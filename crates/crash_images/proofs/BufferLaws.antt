@@ -11,8 +11,7 @@ use lib.Dec.{leb, ltb, eqb}
 use borrow.Author.Tests.{ltb-true, eq-eqb, ne-eqb}
 use Rattle.device.specs.Ops.{store, flush}
 use Rattle.crash_images.specs.CrashImages.{opOk, opOf, opsOf, badOpFrom}
-use Rattle.crash_images.specs.InnerSteps.{Entry, entry, opAt, newestStep, newestAt, flushedStep, flushedAt, inTable, without, tableAt}
-use Rattle.crash_images.proofs.StepLaws.{StoresIn}
+use Rattle.crash_images.specs.InnerSteps.{Entry, entry, opAt, newestStep, newestAt, flushedStep, flushedAt, inTable, without, tableAt, StoresIn, GoodOps}
 
 none-some : {k : ℕ} → some k ≡ none → ⊥
 none-some e = let z : _≡_ {A = ℕ} 0 1 = cc in omega arith
@@ -32,11 +31,6 @@ ops-at (a ∷ []) k h = absurd (omega arith)
 ops-at (a ∷ b ∷ []) k h = absurd (omega arith)
 ops-at (a ∷ b ∷ c ∷ rest) zero h = refl
 ops-at (a ∷ b ∷ c ∷ rest) (suc k) h = rw (third k 1, third k 2, first k) (ops-at rest k (omega arith))
-
--- no op is bad: whole groups, and stores to words of the image
-pub record GoodOps (n : ℕ) (buffer : List ℕ) : Type 0 where
-  pub whole : length buffer ≡ length (opsOf buffer) * 3
-  pub each : (k : ℕ) → k < length (opsOf buffer) → StoresIn n (opAt (opsOf buffer) k)
 
 op-in : (n tag word argument : ℕ) → opOk n tag word argument ≡ true → StoresIn n (opOf tag word argument)
 op-in n tag word argument h = go (eqb tag 1) h
@@ -70,6 +64,12 @@ ops-long (a ∷ []) k h = absurd (omega arith)
 ops-long (a ∷ b ∷ []) k h = absurd (omega arith)
 ops-long (a ∷ b ∷ c ∷ rest) zero h = omega arith
 ops-long (a ∷ b ∷ c ∷ rest) (suc k) h = let r = ops-long rest k (omega arith) in omega (arith, r)
+
+-- the word that a store names
+pub store-inside : (n : ℕ) (buffer : List ℕ) (k : ℕ) → GoodOps n buffer → k * 3 + 3 ≤ length buffer
+    → getD buffer (k * 3) 0 ≡ 1 → getD buffer (k * 3 + 1) 0 < n
+store-inside n buffer k good h tag = rw (ops-at buffer k (ops-long buffer k h), eq-eqb (getD buffer (k * 3) 0) 1 tag) at
+    (good .each k (ops-long buffer k h))
 
 -- a turn of held_at's loop
 pub held-turn : (image buffer : List ℕ) (j w : ℕ) → j * 3 + 3 ≤ length buffer → (new old new′ old′ : ℕ)

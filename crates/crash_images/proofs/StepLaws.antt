@@ -13,7 +13,7 @@ use Rattle.device.specs.Ops.{Op, store, flush}
 use Rattle.device.specs.Crash.{Device, newest, settled, push, within, carryOp, carry, powerUp}
 use Rattle.device.proofs.CrashLaws.{carry-append}
 use Rattle.crash_images.specs.CrashImages.{holds, addChoice, choicesOf, choices, columns, waysOf, wayOf, countAt, imageAt, pointOf}
-use Rattle.crash_images.specs.InnerSteps.{Entry, entry, opAt, newestStep, newestAt, flushedStep, flushedAt, inTable, without, entriesOf, valuesOf, tableStep, tableAt, tableCount, wordsBy}
+use Rattle.crash_images.specs.InnerSteps.{Entry, entry, opAt, newestStep, newestAt, flushedStep, flushedAt, inTable, without, entriesOf, valuesOf, tableStep, tableAt, tableCount, wordsBy, StoresIn}
 
 -- one op more
 pub point-suc : (image : List ℕ) (os : List Op) (k : ℕ) → k < length os
@@ -267,12 +267,7 @@ unfolding tableCount entriesOf
 count-prod n end = sym (prod-one 0 n)
 count-prod n (and {e} {t} h i) = count-step n e t h (count-prod n i)
 
--- every store is to a word of the image
-abbrev pub StoresIn : ℕ → Op → Type 0
-StoresIn n (store x v) = x < n
-StoresIn n (flush f c) = Unit {0}
-
-inside-without : (n f c : ℕ) {t : List Entry} → Inside n t → Inside n (without f c t)
+pub inside-without : (n f c : ℕ) {t : List Entry} → Inside n t → Inside n (without f c t)
 unfolding without
 inside-without n f c end = end
 inside-without n f c (and {e} {t} h i) = go (within f c (e .word)) (inside-without n f c i)

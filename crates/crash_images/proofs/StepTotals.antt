@@ -5,14 +5,14 @@ use mathlib.Core.Bool.{Bool, true, false, cond, _||_}
 use Prim.Native.Nat.{ℕ, zero, suc, _+_, _-_, _*_, _≤_, _<_}
 use native.Mathlib.Omega.{arith}
 use native.Mathlib.Nat.{mul-zero, mul-le-mul, mul-add, add-mul}
-use lib.ListN.{length, take}
+use lib.ListN.{length, getD, take}
 use lib.Dec.{ltb, eqb}
-use borrow.Author.Tests.{ltb-true, ltb-false, lt-ltb, le-ltb, eq-eqb, ne-eqb}
+use borrow.Author.Tests.{ltb-true, ltb-false, lt-ltb, le-ltb, eq-eqb, ne-eqb, eqb-true, eqb-false}
 use Rattle.device.specs.Ops.{Op, store, flush}
 use Rattle.device.specs.Crash.{Device, within, carryOp, carry, powerUp}
 use Rattle.crash_images.specs.CrashImages.{countAt, totalOf, total, Crash, later, crashOf, crashNumber, imageLeft}
-use Rattle.crash_images.specs.InnerSteps.{Entry, entry, opAt, flushedAt, inTable, without, entriesOf, tableStep, tableAt, tableCount, crashesBefore, wordsBy}
-use Rattle.crash_images.proofs.StepLaws.{prod, Rest, prod-at, factor, Inside, end, and, count-prod, StoresIn, inside-at, count-by-steps, image-by-steps}
+use Rattle.crash_images.specs.InnerSteps.{Entry, entry, opAt, flushedAt, inTable, without, entriesOf, tableStep, tableAt, tableCount, crashesBefore, wordsBy, entriesIn, StoresIn}
+use Rattle.crash_images.proofs.StepLaws.{prod, Rest, prod-at, factor, Inside, end, and, count-prod, inside-without, inside-at, count-by-steps, image-by-steps}
 
 -- the sum of g below k
 unfoldable sumBelow : (ℕ → ℕ) → ℕ → ℕ
@@ -129,6 +129,69 @@ count-long n (and {e} {t} h i) =
     let p : tableCount t < tableCount (e ∷ t) = count-grows n e t h i .0 in
     let q : length t < tableCount t = count-long n i in
     omega (arith, p, q)
+
+prod-below : (f g : ℕ → ℕ) (first n : ℕ) → ((w : ℕ) → f w ≤ g w) → prod f first n ≤ prod g first n
+unfolding prod
+prod-below f g first zero h = omega arith
+prod-below f g first (suc n) h = mul-le-mul (h first) (prod-below f g (suc first) n h)
+
+-- after a flush a word has no more entries, and the table no more images
+entries-without : (f c w : ℕ) (t : List Entry) → entriesOf w (without f c t) ≤ entriesOf w t
+unfolding without entriesOf
+entries-without f c w [] = omega arith
+entries-without f c w (e ∷ t) = go (within f c (e .word)) (entries-without f c w t)
+  where
+    more : (d : Bool) (x y : ℕ) → x ≤ y → x ≤ cond d (suc y) y
+    more true x y h = omega arith
+    more false x y h = h
+
+    both : (d : Bool) (x y : ℕ) → x ≤ y → cond d (suc x) x ≤ cond d (suc y) y
+    both true x y h = omega arith
+    both false x y h = h
+
+    go : (b : Bool) → entriesOf w (without f c t) ≤ entriesOf w t
+        → entriesOf w (cond b (without f c t) (e ∷ without f c t))
+        ≤ cond (eqb w (e .word)) (suc (entriesOf w t)) (entriesOf w t)
+    go true r = more (eqb w (e .word)) (entriesOf w (without f c t)) (entriesOf w t) r
+    go false r = both (eqb w (e .word)) (entriesOf w (without f c t)) (entriesOf w t) r
+
+pub count-without : (n f c : ℕ) {t : List Entry} → Inside n t → tableCount (without f c t) ≤ tableCount t
+count-without n f c {t} i = rw (count-prod n (inside-without n f c i), count-prod n i)
+    (prod-below (factor (without f c t)) (factor t) 0 n (λ w. omega (arith, entries-without f c w t)))
+
+-- the first entries of a table have no more images than all of them
+pub inside-one : {n : ℕ} {e : Entry} {t : List Entry} → Inside n (e ∷ t) → (e .word < n) × Inside n t
+inside-one (and h i) = (h, i)
+
+module _ (n : ℕ) (words values : List ℕ) where
+  pub count-first : (len : ℕ) → Inside n (entriesIn words values len) → (j : ℕ) → j ≤ len
+      → Inside n (entriesIn words values j)
+      × (tableCount (entriesIn words values j) ≤ tableCount (entriesIn words values len))
+  unfolding entriesIn
+  count-first zero i j h = let z : j ≡ 0 = omega arith in rw z (i, omega arith)
+  count-first (suc len) i j h = go (eqb j (suc len)) refl (count-first len (inside-one i .1) j)
+    where
+      go : (b : Bool) → eqb j (suc len) ≡ b
+          → (j ≤ len
+          → Inside n (entriesIn words values j)
+          × (tableCount (entriesIn words values j) ≤ tableCount (entriesIn words values len)))
+          → Inside n (entriesIn words values j)
+          × (tableCount (entriesIn words values j) ≤ tableCount (entriesIn words values (suc len)))
+      go true e r = rw (eqb-true j (suc len) e) (i, omega arith)
+      go false e r = let ne = eqb-false j (suc len) e in
+          let p = r (omega arith) in (
+            p .0,
+            omega (
+              arith,
+              p .1,
+              count-grows n (entry (getD words len 0) (getD values len 0)) (entriesIn words values len)
+                  (inside-one i .0) (inside-one i .1) .0,
+            ),
+          )
+
+  pub count-kept : (f c len : ℕ) → Inside n (entriesIn words values len) → (j : ℕ) → j ≤ len
+      → tableCount (without f c (entriesIn words values j)) ≤ tableCount (entriesIn words values len)
+  count-kept f c len i j h = let p = count-first len i j h in omega (arith, count-without n f c (p .0), p .1)
 
 short-without : (f c : ℕ) (t : List Entry) → length (without f c t) ≤ length t
 unfolding without

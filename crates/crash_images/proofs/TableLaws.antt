@@ -22,6 +22,13 @@ pub counted-below : (b : Bool) (count r j : ℕ) → r ≡ cond b (suc count) co
 counted-below true count r j e h = omega arith
 counted-below false count r j e h = omega arith
 
+-- the values do not matter to it
+pub entries-any : (words values others : List ℕ) (w j : ℕ)
+    → entriesOf w (entriesIn words values j) ≡ entriesOf w (entriesIn words others j)
+unfolding entriesIn entriesOf
+entries-any words values others w zero = refl
+entries-any words values others w (suc j) = rw (entries-any words values others w j)
+
 pub found-turn : (words values : List ℕ) (j w v : ℕ) (found found′ : Bool)
     → found ≡ inTable w v (entriesIn words values j)
     → found′ ≡ ((eqb w (getD words j 0) && eqb v (getD values j 0)) || found)

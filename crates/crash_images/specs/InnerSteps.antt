@@ -2,14 +2,16 @@
 -- stored since the last flush of their word, without the flushed one and without repeats; the flushed and the newest
 -- value are read from the ops. After store a, store b, store a the table ends in b, but a flush leaves a: so the newest
 -- value is not the table's last.
--- Cites Crash.antt and Ops.antt of device.
+-- Cites CrashImages.antt, and Crash.antt and Ops.antt of device.
+use mathlib.Core.Path.{_≡_}
 use mathlib.Core.List.{List, [], _∷_, _++_}
 use mathlib.Core.Bool.{Bool, false, cond, _&&_, _||_}
-use Prim.Native.Nat.{ℕ, zero, suc, _+_, _*_, _/_, _%_}
-use lib.ListN.{getD}
+use Prim.Native.Nat.{ℕ, zero, suc, _+_, _*_, _/_, _%_, _<_}
+use lib.ListN.{length, getD}
 use lib.Dec.{eqb}
 use Rattle.device.specs.Ops.{Op, store, flush}
 use Rattle.device.specs.Crash.{within}
+use Rattle.crash_images.specs.CrashImages.{opsOf}
 
 pub record Entry : Type 0 where
   pub word : ℕ
@@ -86,3 +88,13 @@ wordsBy flushed t w (suc count) m =
 unfoldable pub entriesIn : List ℕ → List ℕ → ℕ → List Entry
 entriesIn words values zero = []
 entriesIn words values (suc len) = entry (getD words len 0) (getD values len 0) ∷ entriesIn words values len
+
+-- a store to a word of an image of n words, or a flush
+abbrev pub StoresIn : ℕ → Op → Type 0
+StoresIn n (store x v) = x < n
+StoresIn n (flush f c) = Unit {0}
+
+-- no op is bad: whole groups, and stores to words of the image
+pub record GoodOps (n : ℕ) (buffer : List ℕ) : Type 0 where
+  pub whole : length buffer ≡ length (opsOf buffer) * 3
+  pub each : (k : ℕ) → k < length (opsOf buffer) → StoresIn n (opAt (opsOf buffer) k)
