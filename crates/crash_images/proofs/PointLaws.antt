@@ -11,6 +11,7 @@ use borrow.Author.Tests.{ltb-true, ltb-false, lt-ltb, le-ltb}
 use Rattle.device.specs.Ops.{Op}
 use Rattle.device.specs.Crash.{Device, carryOp, carry}
 use Rattle.crash_images.specs.CrashImages.{countAt, totalOf, Crash, later, crashOf}
+use Rattle.crash_images.proofs.WayLaws.{columns-some}
 use Rattle.crash_images.specs.EachOnce.{Before}
 
 abbrev at : ℕ → ℕ → Crash
@@ -55,6 +56,17 @@ crash-all n (o ∷ os) d (suc k) m h l = go (crash-all n os (carryOp o d) k m (o
       where
         back : countAt n d + r .0 - countAt n d ≡ r .0
         back = omega arith
+
+-- a crash's point is at most its number, since each point has an image
+pub point-below : (n : ℕ) (os : List Op) (d : Device) (i : ℕ) → (crashOf n os d i) .point ≤ i
+unfolding crashOf
+point-below n [] d i = omega arith
+point-below n (o ∷ os) d i = go (ltb i (countAt n d)) refl (point-below n os (carryOp o d) (i - countAt n d))
+  where
+    go : (b : Bool) → ltb i (countAt n d) ≡ b → (crashOf n os (carryOp o d) (i - countAt n d)) .point ≤ i - countAt n d
+        → (cond b (at 0 i) (later (crashOf n os (carryOp o d) (i - countAt n d)))) .point ≤ i
+    go true p h = omega arith
+    go false p h = omega (arith, h, ltb-false i (countAt n d) p, columns-some d 0 n)
 
 before-later : (a b : Crash) → Before a b → Before (later a) (later b)
 before-later a b (inl h) = inl (omega arith)

@@ -242,3 +242,23 @@ module _ (n : ℕ) (image : List ℕ) (os : List Op) (stores : (k : ℕ) → k <
           mul-le-mul {n₁ = 91} {m₁ = 92} (omega (arith, ltb-false (length (tableAt image os k)) 90 p))
           (omega (arith, ltb-false (length (tableAt image os k)) 90 p)) in
           absurd (omega (arith, table-square k h))
+
+  -- an op makes at most twice as many images
+  pub count-step : (k : ℕ) → k < length os → tableCount (tableAt image os (suc k)) ≤ 2 * tableCount (tableAt image os k)
+  unfolding tableAt
+  count-step k h = go (opAt os k) (stores k h)
+    where
+      inside : Inside n (tableAt image os k)
+      inside = inside-at n image os stores k (omega arith)
+
+      stored : (b : Bool) (x v : ℕ) → x < n
+          → tableCount (cond b (tableAt image os k) (entry x v ∷ tableAt image os k))
+          ≤ 2 * tableCount (tableAt image os k)
+      stored true x v l = omega arith
+      stored false x v l =
+          count-grows n (entry x v) (tableAt image os k) l (inside-at n image os stores k (omega arith)) .1
+
+      go : (o : Op) → StoresIn n o
+          → tableCount (tableStep o (flushedAt image os k) (tableAt image os k)) ≤ 2 * tableCount (tableAt image os k)
+      go (store x v) l = stored (eqb v (flushedAt image os k x) || inTable x v (tableAt image os k)) x v l
+      go (flush f c) l = omega (arith, count-without n f c (inside-at n image os stores k (omega arith)))

@@ -3,7 +3,7 @@ use mathlib.Core.Path.{_≡_, refl, sym, _∙_, subst, ap}
 use mathlib.Core.List.{List, [], _∷_}
 use Prim.Native.Nat.{ℕ, zero, suc, _+_, _*_, _/_, _%_, _≤_, _<_}
 use native.Mathlib.Omega.{arith}
-use native.Mathlib.Nat.{mul-comm, mul-suc, mul-le-mul-left, mod-lt, mod-eq-of-lt, div-eq-of-lt, add-mul-mod-self-left, add-mul-div-left, div-lt-iff-lt-mul, mod-add-div}
+use native.Mathlib.Nat.{mul-comm, mul-suc, mul-le-mul, mul-le-mul-left, mod-lt, mod-eq-of-lt, div-eq-of-lt, add-mul-mod-self-left, add-mul-div-left, div-lt-iff-lt-mul, mod-add-div}
 use lib.ListN.{length, getD}
 use Rattle.device.specs.Crash.{Device, In, CrashImage}
 use Rattle.crash_images.specs.CrashImages.{columns, waysOf, wayOf}
@@ -74,6 +74,13 @@ unfolding columns
 columns-good d first zero = end
 columns-good d first (suc n) = and (choices-once ((d first) .flushed) ((d first) .since))
     (choices-some ((d first) .flushed) ((d first) .since)) (columns-good d (suc first) n)
+
+-- and has an image at least
+pub columns-some : (d : Device) (first n : ℕ) → 0 < waysOf (columns d first n)
+unfolding columns waysOf
+columns-some d first zero = omega arith
+columns-some d first (suc n) =
+    mul-le-mul {n₁ = 1} {m₁ = 1} (choices-some ((d first) .flushed) ((d first) .since)) (columns-some d (suc first) n)
 
 -- what a crash may leave of a word; of an image's words, as the module's from first on
 abbrev Left : Device → ℕ → ℕ → Type 0
