@@ -16,6 +16,7 @@
 // The log of document 01, and the calls that document 02 adds.
 pub mod calls;
 pub mod layout;
+pub mod numbered_crashes;
 pub mod ops;
 pub mod query;
 pub mod refusal;
@@ -44,6 +45,7 @@ pub mod load;
 pub mod loglist;
 pub mod logload;
 pub mod logwhy;
+pub mod numbered_calls;
 pub mod replay;
 pub mod rng;
 pub mod samples;

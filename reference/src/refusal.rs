@@ -1,4 +1,4 @@
-//! The table "When a call declines", refusals 16 to 19 of document 02, and the tests that slips 4 and 8 have refusal 12 name.
+//! The table "When a call declines", refusals 16 to 19 and 21 to 23 of document 02, and the tests that slips 4 and 8 have refusal 12 name.
 
 /// Why a call declined. Its number and detail are those of the documents.
 #[derive(Clone, Copy, Debug, PartialEq, Eq)]
@@ -44,6 +44,14 @@ pub enum Refusal {
     NotNext,
     /// Of three modules' copies fewer than two are readable.
     TooFewCopies,
+    /// Op `number`, from 0, is not one that the call takes.
+    BadOp {
+        number: u64,
+    },
+    /// More than 4,096 crashes.
+    TooManyCrashes,
+    /// The number is not below that of the crashes.
+    NoCrash,
 }
 
 impl Refusal {
@@ -68,6 +76,9 @@ impl Refusal {
             Refusal::BadLine => 17,
             Refusal::NotNext => 18,
             Refusal::TooFewCopies => 19,
+            Refusal::BadOp { .. } => 21,
+            Refusal::TooManyCrashes => 22,
+            Refusal::NoCrash => 23,
         }
     }
 
@@ -77,6 +88,7 @@ impl Refusal {
                 lsn
             }
             Refusal::OpBufferShort { needed } => needed,
+            Refusal::BadOp { number } => number,
             _ => 0,
         }
     }

@@ -1,4 +1,4 @@
--- The steps of specs/Steps.antt are the module's: values, choices, counts, images.
+-- The steps of specs/InnerSteps.antt are the module's: values, choices, counts, images.
 use mathlib.Core.Path.{_≡_, refl, sym, _∙_, subst, ap}
 use mathlib.Core.List.{List, [], _∷_, _++_}
 use mathlib.Core.Bool.{Bool, true, false, cond, _&&_, _||_, false≢true}
