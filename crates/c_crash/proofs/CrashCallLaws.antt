@@ -15,7 +15,8 @@ use Rattle.device.specs.Crash.{powerUp}
 use Rattle.crash_images.specs.declared.CrashAnswer.{CrashAnswer}
 use Rattle.crash_images.specs.declared.CrashAnswer.the-variants.{Number, Refused}
 use Rattle.crash_images.specs.Answered.{answered}
-use Rattle.crash_images.specs.CrashImages.{opsOf, maxCrashes, total, countTests, countReply, Crash, crashNumber, crashTests, crashReply, pointReply, outputLeft}
+use Rattle.crash_images.specs.CrashImages.{maxCrashes, total, countTests, countReply, Crash, crashNumber, crashTests, crashReply, pointReply, outputLeft}
+use Rattle.device.specs.ReadOps.{opsOf}
 use Rattle.crash_images.proofs.PointLaws.{point-below}
 use Rattle.c_reply.specs.ByteAnswer.{signed}
 use Rattle.c_reply.specs.ReplyWords.{replySize, over, replyAfter}

@@ -8,7 +8,8 @@ use lib.IntN.{ℤ}
 use Rattle.refusal.specs.Tests.{Reply, refused, test, decide}
 use Rattle.device.specs.Ops.{Op}
 use Rattle.device.specs.Lent.{Lent, given, left, room}
-use Rattle.crash_images.specs.CrashImages.{opsOf, countReply, Crash, crashReply, outputLeft}
+use Rattle.crash_images.specs.CrashImages.{countReply, Crash, crashReply, outputLeft}
+use Rattle.device.specs.ReadOps.{opsOf}
 use Rattle.c_reply.specs.ByteAnswer.{signed}
 use Rattle.c_reply.specs.ReplyWords.{replySize, replyAfter}
 

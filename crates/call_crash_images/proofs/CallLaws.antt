@@ -13,7 +13,9 @@ use Rattle.refusal.specs.Tests.{Reply, ok, refused, because, test, decide, verd
 use Rattle.refusal.specs.declared.Why.{Why}
 use Rattle.refusal.proofs.TestLaws.{AllPass, first-passes, rest-pass, row-fails, row-passes, refusal-decides}
 use Rattle.scan.specs.Open.{imageSizeOk, sizeTest}
-use Rattle.crash_images.specs.CrashImages.{opsOf, badOpFrom, badOpTest, maxCrashes, total, countReply, Crash, crashNumber, crashReply, leftBy, pointReply, outputLeft}
+use Rattle.crash_images.specs.CrashImages.{maxCrashes, total, countReply, Crash, crashNumber, crashReply, leftBy, pointReply, outputLeft, opOk}
+use Rattle.device.specs.ReadOps.{opsOf, firstOther}
+use Rattle.refusal.specs.Tests.{opTest}
 use Rattle.crash_images.specs.InnerSteps.{GoodOps}
 use Rattle.crash_images.proofs.BufferLaws.{good-ops}
 use Rattle.call_crash_images.specs.InnerPut.{lentTests}
@@ -30,25 +32,26 @@ or-none false = refl
 module _ {ok-size : Bool} (n room : ℕ) (buffer : List ℕ) (e : ok-size ≡ imageSizeOk n) where
   pub size-met : not ok-size ≡ true → refused (because 1 0) ≡ verdict (lentTests n room buffer)
   size-met h = sym (row-fails (test (not (imageSizeOk n) || not (eqb room n)) 1 0)
-      (badOpTest (badOpFrom n 0 buffer) ∷ []) refused (ok tt) (rw (← e, h)))
+      (opTest (firstOther (opOk n) 0 buffer) ∷ []) refused (ok tt) (rw (← e, h)))
 
   pub room-met : (room ≡ n → ⊥) → refused (because 1 0) ≡ verdict (lentTests n room buffer)
   room-met h = sym (row-fails (test (not (imageSizeOk n) || not (eqb room n)) 1 0)
-      (badOpTest (badOpFrom n 0 buffer) ∷ []) refused (ok tt) (rw (ne-eqb room n h) (or-true (not (imageSizeOk n)))))
+      (opTest (firstOther (opOk n) 0 buffer) ∷ []) refused (ok tt)
+      (rw (ne-eqb room n h) (or-true (not (imageSizeOk n)))))
 
   pub lent-rest : not ok-size ≡ false → room ≡ n → {v : Reply (Unit {0})}
-      → v ≡ verdict (badOpTest (badOpFrom n 0 buffer) ∷ [])
+      → v ≡ verdict (opTest (firstOther (opOk n) 0 buffer) ∷ [])
       → v ≡ verdict (lentTests n room buffer)
   lent-rest h l p = p ∙ sym (row-passes (test (not (imageSizeOk n) || not (eqb room n)) 1 0)
-      (badOpTest (badOpFrom n 0 buffer) ∷ []) refused (ok tt) (rw (← e, h, eq-eqb room n l)))
+      (opTest (firstOther (opOk n) 0 buffer) ∷ []) refused (ok tt) (rw (← e, h, eq-eqb room n l)))
 
 -- what is lent is as it has to be
 pub record Fine (n room : ℕ) (buffer : List ℕ) : Type 0 where
   pub size : not (imageSizeOk n) ≡ false
   pub same : room ≡ n
-  pub ops : badOpFrom n 0 buffer ≡ none
+  pub ops : firstOther (opOk n) 0 buffer ≡ none
 
-no-bad : (o : Option ℕ) → (badOpTest o) .fails ≡ false → o ≡ none
+no-bad : (o : Option ℕ) → (opTest o) .fails ≡ false → o ≡ none
 no-bad none h = refl
 no-bad (some k) h = absurd (false≢true (sym h))
 
@@ -56,7 +59,7 @@ pub fine : (n room : ℕ) (buffer : List ℕ) → AllPass (lentTests n room buff
 fine n room buffer p = record {
   size = go (not (imageSizeOk n)) (eqb room n) refl (first-passes p) .0;
   same = eqb-true room n (go (not (imageSizeOk n)) (eqb room n) refl (first-passes p) .1);
-  ops = no-bad (badOpFrom n 0 buffer) (first-passes (rest-pass p));
+  ops = no-bad (firstOther (opOk n) 0 buffer) (first-passes (rest-pass p));
 }
   where
     go : (a b : Bool) → eqb room n ≡ b → (a || not b) ≡ false → (a ≡ false) × (b ≡ true)
@@ -73,7 +76,7 @@ module _ (image buffer : List ℕ) where
       → refused w ≡ countReply image buffer
   unfolding countReply
   count-refused {w} h =
-      sym (refusal-decides (sizeTest image ∷ badOpTest (badOpFrom (length image) 0 buffer) ∷ []) tt refused
+      sym (refusal-decides (sizeTest image ∷ opTest (firstOther (opOk (length image)) 0 buffer) ∷ []) tt refused
       (decide (test (ltb maxCrashes (total image (opsOf buffer))) 22 0 ∷ []) refused (ok (total image (opsOf buffer))))
       (h ∙ rw (eq-eqb (length image) (length image) refl, or-none (not (imageSizeOk (length image))))))
 

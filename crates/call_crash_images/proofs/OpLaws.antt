@@ -11,7 +11,8 @@ use lib.ListN.{length, getD, drop}
 use lib.Seq.{drop-cons}
 use lib.Dec.{leb, ltb, eqb}
 use borrow.Author.Tests.{eq-eqb, ne-eqb, le-leb, lt-leb, leb-true, leb-false}
-use Rattle.crash_images.specs.CrashImages.{opOk, badOpFrom}
+use Rattle.crash_images.specs.CrashImages.{opOk}
+use Rattle.device.specs.ReadOps.{firstOther}
 
 -- an op of a tag that is neither, a flush from a word outside, and one from a word inside
 pub no-op : (n tag word argument : ℕ) → (tag ≡ 1 → ⊥) → (tag ≡ 2 → ⊥) → false ≡ opOk n tag word argument
@@ -57,25 +58,25 @@ module _ (n : ℕ) (buffer : List ℕ) (k : ℕ) where
 
   pub bad-goes-on : k * 3 + 3 ≤ length buffer
       → opOk n (getD buffer (k * 3) 0) (getD buffer (k * 3 + 1) 0) (getD buffer (k * 3 + 2) 0) ≡ true
-      → badOpFrom n (k + 1) (drop ((k + 1) * 3) buffer) ≡ badOpFrom n k (drop (k * 3) buffer)
-  unfolding badOpFrom
+      → firstOther (opOk n) (k + 1) (drop ((k + 1) * 3) buffer) ≡ firstOther (opOk n) k (drop (k * 3) buffer)
+  unfolding firstOther
   bad-goes-on h e = rw (three h, e, add-one k)
 
   pub bad-here : k * 3 + 3 ≤ length buffer
       → opOk n (getD buffer (k * 3) 0) (getD buffer (k * 3 + 1) 0) (getD buffer (k * 3 + 2) 0) ≡ false
-      → badOpFrom n k (drop (k * 3) buffer) ≡ some k
-  unfolding badOpFrom
+      → firstOther (opOk n) k (drop (k * 3) buffer) ≡ some k
+  unfolding firstOther
   bad-here h e = rw (three h, e)
 
 -- fewer than three words are left, or none
-pub bad-short : (n k : ℕ) (rest : List ℕ) → 0 < length rest → length rest < 3 → badOpFrom n k rest ≡ some k
-unfolding badOpFrom
+pub bad-short : (n k : ℕ) (rest : List ℕ) → 0 < length rest → length rest < 3 → firstOther (opOk n) k rest ≡ some k
+unfolding firstOther
 bad-short n k [] h l = absurd (omega arith)
 bad-short n k (a ∷ []) h l = refl
 bad-short n k (a ∷ b ∷ []) h l = refl
 bad-short n k (a ∷ b ∷ c ∷ rest) h l = absurd (omega arith)
 
-pub bad-none : (n k : ℕ) (rest : List ℕ) → length rest ≡ 0 → badOpFrom n k rest ≡ none
-unfolding badOpFrom
+pub bad-none : (n k : ℕ) (rest : List ℕ) → length rest ≡ 0 → firstOther (opOk n) k rest ≡ none
+unfolding firstOther
 bad-none n k [] h = refl
 bad-none n k (a ∷ rest) h = absurd (omega arith)

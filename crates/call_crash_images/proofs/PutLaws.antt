@@ -13,7 +13,8 @@ use lib.Dec.{eqb}
 use borrow.Author.Tests.{eqb-true, eqb-false, eq-eqb, ne-eqb}
 use Rattle.device.specs.Ops.{Op, store, flush}
 use Rattle.device.specs.Crash.{within}
-use Rattle.crash_images.specs.CrashImages.{opsOf, Crash, crashNumber, imageLeft}
+use Rattle.crash_images.specs.CrashImages.{Crash, crashNumber, imageLeft}
+use Rattle.device.specs.ReadOps.{opsOf}
 use Rattle.crash_images.specs.InnerSteps.{Entry, opAt, newestStep, newestAt, flushedStep, flushedAt, entriesIn, entriesOf, valuesOf, tableAt, wordsBy, GoodOps}
 use Rattle.crash_images.proofs.StepLaws.{entries-values}
 use Rattle.crash_images.proofs.StepTotals.{crash-by-steps, left-by-steps}

@@ -11,7 +11,8 @@ use lib.ListN.{length}
 use lib.Dec.{leb, ltb}
 use borrow.Author.Tests.{ltb-true, ltb-false, leb-true, leb-false}
 use Rattle.device.specs.Ops.{Op}
-use Rattle.crash_images.specs.CrashImages.{opsOf, total, maxCrashes}
+use Rattle.crash_images.specs.CrashImages.{total, maxCrashes}
+use Rattle.device.specs.ReadOps.{opsOf}
 use Rattle.crash_images.specs.InnerSteps.{Entry, entriesIn, tableAt, tableCount, crashesBefore, GoodOps}
 use Rattle.crash_images.proofs.StepTotals.{total-by-steps, table-fits, count-step}
 use Rattle.crash_table.specs.InnerTable.{IsTable, tableRoom}

@@ -10,7 +10,9 @@ use lib.ListN.{length, getD, set}
 use Rattle.device.specs.Ops.{Op, store, flush}
 use Rattle.refusal.specs.Tests.{Test, test}
 use Rattle.scan.specs.Open.{imageSizeOk}
-use Rattle.crash_images.specs.CrashImages.{badOpFrom, badOpTest, maxCrashes}
+use Rattle.crash_images.specs.CrashImages.{maxCrashes, opOk}
+use Rattle.device.specs.ReadOps.{firstOther}
+use Rattle.refusal.specs.Tests.{opTest}
 use Rattle.crash_images.specs.InnerSteps.{Entry, opAt, flushedAt, entriesIn, entriesOf, valuesOf, tableAt, tableCount, crashesBefore}
 use Rattle.crash_table.specs.InnerTable.{tableRoom}
 use Rattle.call_crash_images.specs.declared.Found.{Found}
@@ -18,7 +20,7 @@ use Rattle.call_crash_images.specs.declared.Found.{Found}
 -- tests 1 and 21, of an image of n words and room for one
 abbrev pub lentTests : ℕ → ℕ → List ℕ → List Test
 lentTests n room buffer =
-    test (not (imageSizeOk n) || not (eqb room n)) 1 0 ∷ badOpTest (badOpFrom n 0 buffer) ∷ []
+    test (not (imageSizeOk n) || not (eqb room n)) 1 0 ∷ opTest (firstOther (opOk n) 0 buffer) ∷ []
 
 -- a sum that is the total, unless both are more than the most
 pub record Totals (r total : ℕ) : Type 0 where

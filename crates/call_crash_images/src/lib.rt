@@ -22,7 +22,9 @@ ghost use Rattle.device.specs.Lent.{given, left, room};
 ghost use Rattle.refusal.specs.Refusals.{verdictReply};
 ghost use Rattle.refusal.specs.Tests.{ok, verdict};
 ghost use Rattle.crash_images.specs.Answered.{answered};
-ghost use Rattle.crash_images.specs.CrashImages.{opOk, opsOf, badOpFrom, badOpTest, maxCrashes, total, countReply};
+ghost use Rattle.crash_images.specs.CrashImages.{opOk, maxCrashes, total, countReply};
+ghost use Rattle.device.specs.ReadOps.{opsOf, firstOther};
+ghost use Rattle.refusal.specs.Tests.{opTest};
 ghost use Rattle.crash_images.specs.CrashImages.{imageLeft, crashNumber, crashReply, pointReply, outputLeft};
 ghost use Rattle.crash_images.specs.InnerSteps.{entriesIn, valuesOf, wordsBy, GoodOps};
 ghost use Rattle.crash_table.specs.InnerTable.{tableRoom};
@@ -48,7 +50,7 @@ fn op_ok(n: u64, tag: u64, word: u64, argument: u64) -> bool
 
 // The verdict of test 21: the lowest number of an op that is not one.
 fn bad_op(n: usize, ops: &[u64]) -> Verdict
-    ensures { λ r. ⌜ verdictReply r ≡ verdict (badOpTest (badOpFrom n 0 (given ops)) ∷ []) ⌝ }
+    ensures { λ r. ⌜ verdictReply r ≡ verdict (opTest (firstOther (opOk n) 0 (given ops)) ∷ []) ⌝ }
 {
     let mut k: usize = 0;
     while k * 3 + 3 <= ops.len() {

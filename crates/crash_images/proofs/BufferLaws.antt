@@ -10,7 +10,8 @@ use lib.ListN.{length, getD}
 use lib.Dec.{leb, ltb, eqb}
 use borrow.Author.Tests.{ltb-true, eq-eqb, ne-eqb}
 use Rattle.device.specs.Ops.{store, flush}
-use Rattle.crash_images.specs.CrashImages.{opOk, opOf, opsOf, badOpFrom}
+use Rattle.crash_images.specs.CrashImages.{opOk}
+use Rattle.device.specs.ReadOps.{opOf, opsOf, firstOther}
 use Rattle.crash_images.specs.InnerSteps.{Entry, entry, opAt, newestStep, newestAt, flushedStep, flushedAt, inTable, without, tableAt, StoresIn, GoodOps}
 
 none-some : {k : ℕ} → some k ≡ none → ⊥
@@ -40,15 +41,15 @@ op-in n tag word argument h = go (eqb tag 1) h
     go true e = ltb-true word n e
     go false e = tt
 
-pub good-ops : (n k : ℕ) (buffer : List ℕ) → badOpFrom n k buffer ≡ none → GoodOps n buffer
-unfolding opsOf badOpFrom
+pub good-ops : (n k : ℕ) (buffer : List ℕ) → firstOther (opOk n) k buffer ≡ none → GoodOps n buffer
+unfolding opsOf firstOther
 good-ops n k [] h = record { whole = refl; each = λ j l. absurd (omega arith) }
 good-ops n k (a ∷ []) h = absurd (none-some h)
 good-ops n k (a ∷ b ∷ []) h = absurd (none-some h)
 good-ops n k (a ∷ b ∷ c ∷ rest) h = go (opOk n a b c) refl h (good-ops n (suc k) rest)
   where
-    go : (t : Bool) → opOk n a b c ≡ t → cond t (badOpFrom n (suc k) rest) (some k) ≡ none
-        → (badOpFrom n (suc k) rest ≡ none → GoodOps n rest) → GoodOps n (a ∷ b ∷ c ∷ rest)
+    go : (t : Bool) → opOk n a b c ≡ t → cond t (firstOther (opOk n) (suc k) rest) (some k) ≡ none
+        → (firstOther (opOk n) (suc k) rest ≡ none → GoodOps n rest) → GoodOps n (a ∷ b ∷ c ∷ rest)
     go false p q r = absurd (none-some q)
     go true p q r = let o = r q in record { whole = omega (arith, o .whole); each = each (o .each) }
       where

@@ -6,7 +6,8 @@ use lib.ListN.{replicate, set}
 use Rattle.device.specs.Ops.{Op, store, flush, opWords}
 use Rattle.device.specs.Crash.{carryOp, carry}
 use Rattle.refusal.specs.Tests.{ok, refused, because}
-use Rattle.crash_images.specs.CrashImages.{holds, addChoice, choicesOf, columns, waysOf, wayOf, totalOf, crashOf, total, imageLeft, opsOf, badOpFrom, crashReply}
+use Rattle.crash_images.specs.CrashImages.{holds, addChoice, choicesOf, columns, waysOf, wayOf, totalOf, crashOf, total, imageLeft, crashReply}
+use Rattle.device.specs.ReadOps.{opsOf, firstOther}
 
 abbrev buffer : List Op
 buffer = store 5 7 ∷ store 3 1 ∷ flush 5 1 ∷ []
@@ -35,26 +36,26 @@ abbrev big : List ℕ
 big = replicate 40 0
 
 pub crash-four : crashReply big (opWords buffer) 4 40 ≡ ok (record { point = 2; choice = 1 })
-unfolding holds addChoice choicesOf columns waysOf wayOf totalOf crashOf carryOp carry opsOf badOpFrom crashReply
+unfolding holds addChoice choicesOf columns waysOf wayOf totalOf crashOf carryOp carry opsOf firstOther crashReply
     opWords
 crash-four = refl
 
 pub no-tenth : crashReply big (opWords buffer) 9 40 ≡ refused (because 23 0)
-unfolding holds addChoice choicesOf columns waysOf wayOf totalOf crashOf carryOp carry opsOf badOpFrom crashReply
+unfolding holds addChoice choicesOf columns waysOf wayOf totalOf crashOf carryOp carry opsOf firstOther crashReply
     opWords
 no-tenth = refl
 
 -- the second op's flush of no word; a last group of two words after three ops; a wrong op decides before the number
 pub no-flush : crashReply big (opWords (store 5 7 ∷ flush 5 0 ∷ store 40 1 ∷ [])) 9 40 ≡ refused (because 21 1)
-unfolding badOpFrom crashReply opWords
+unfolding firstOther crashReply opWords
 no-flush = refl
 
 pub crash-short : crashReply big (opWords buffer ++ 1 ∷ 3 ∷ []) 4 40 ≡ refused (because 21 3)
-unfolding badOpFrom crashReply opWords
+unfolding firstOther crashReply opWords
 crash-short = refl
 
 pub outside : crashReply big (opWords (store 40 1 ∷ [])) 4 40 ≡ refused (because 21 0)
-unfolding badOpFrom crashReply opWords
+unfolding firstOther crashReply opWords
 outside = refl
 
 pub other-buffer : crashReply big (opWords (store 40 1 ∷ [])) 4 41 ≡ refused (because 1 0)
@@ -80,5 +81,5 @@ unfolding holds addChoice choicesOf columns waysOf totalOf carryOp carry
 eleven = refl
 
 pub twelve : crashReply big (opWords (stores 12)) 0 40 ≡ refused (because 22 0)
-unfolding holds addChoice choicesOf columns waysOf totalOf carryOp carry opsOf badOpFrom crashReply opWords
+unfolding holds addChoice choicesOf columns waysOf totalOf carryOp carry opsOf firstOther crashReply opWords
 twelve = refl

@@ -5,14 +5,14 @@
 -- the op buffer.
 -- Cites Crash.antt and Ops.antt of device, Tests.antt of refusal, and Open.antt of scan.
 use mathlib.Core.List.{List, [], _∷_, _++_}
-use mathlib.Core.Bool.{Bool, true, false, cond, not, _&&_, _||_}
-use mathlib.Core.Option.{Option, none, some}
+use mathlib.Core.Bool.{Bool, false, cond, not, _||_}
 use Prim.Native.Nat.{ℕ, zero, suc, _+_, _*_, _-_, _/_, _%_}
 use lib.ListN.{length, getD, take}
 use lib.Dec.{leb, ltb, eqb}
-use Rattle.device.specs.Ops.{Op, store, flush}
+use Rattle.device.specs.Ops.{Op}
+use Rattle.device.specs.ReadOps.{opsOf, isOpInside, firstOther}
 use Rattle.device.specs.Crash.{Cell, Device, carryOp, carry, powerUp}
-use Rattle.refusal.specs.Tests.{Reply, ok, refused, Test, test, decide}
+use Rattle.refusal.specs.Tests.{Reply, ok, refused, Test, test, opTest, decide}
 use Rattle.scan.specs.Open.{imageSizeOk, sizeTest}
 
 -- v is among values
@@ -94,30 +94,7 @@ imageLeft image os i = leftBy image os (crashNumber image os i)
 -- three words as an op of a module of n words: "a store to a word of the image" or "a flush of one or more words, all
 -- inside it"
 abbrev pub opOk : ℕ → ℕ → ℕ → ℕ → Bool
-opOk n tag word argument =
-    cond (eqb tag 1) (ltb word n) (eqb tag 2 && (leb 1 argument && leb (word + argument) n))
-
-abbrev pub opOf : ℕ → ℕ → ℕ → Op
-opOf tag word argument = cond (eqb tag 1) (store word argument) (flush word argument)
-
--- the ops of a buffer
-unfoldable pub opsOf : List ℕ → List Op
-opsOf [] = []
-opsOf (tag ∷ []) = []
-opsOf (tag ∷ word ∷ []) = []
-opsOf (tag ∷ word ∷ argument ∷ rest) = opOf tag word argument ∷ opsOf rest
-
--- the lowest number of one that is not so, from k on; "or a last group of fewer than 3 words"
-unfoldable pub badOpFrom : ℕ → ℕ → List ℕ → Option ℕ
-badOpFrom n k [] = none
-badOpFrom n k (tag ∷ []) = some k
-badOpFrom n k (tag ∷ word ∷ []) = some k
-badOpFrom n k (tag ∷ word ∷ argument ∷ rest) = cond (opOk n tag word argument) (badOpFrom n (suc k) rest) (some k)
-
--- refusal 21, detail that number
-abbrev pub badOpTest : Option ℕ → Test
-badOpTest none = test false 21 0
-badOpTest (some k) = test true 21 k
+opOk n tag word argument = isOpInside (λ w. ltb w n) n tag word argument
 
 -- "New: 22, more than 4,096 cuts in all, tested after 21"
 abbrev pub maxCrashes : ℕ
@@ -126,7 +103,7 @@ maxCrashes = 4096
 abbrev pub countTests : List ℕ → List ℕ → List Test
 countTests image buffer =
     sizeTest image
-    ∷ badOpTest (badOpFrom (length image) 0 buffer)
+    ∷ opTest (firstOther (opOk (length image)) 0 buffer)
     ∷ test (ltb maxCrashes (total image (opsOf buffer))) 22 0
     ∷ []
 
@@ -138,7 +115,7 @@ countReply image buffer = decide (countTests image buffer) refused (ok (total im
 abbrev pub crashTests : List ℕ → List ℕ → ℕ → ℕ → List Test
 crashTests image buffer i room =
     test (not (imageSizeOk (length image)) || not (eqb room (length image))) 1 0
-    ∷ badOpTest (badOpFrom (length image) 0 buffer)
+    ∷ opTest (firstOther (opOk (length image)) 0 buffer)
     ∷ test (ltb maxCrashes (total image (opsOf buffer))) 22 0
     ∷ test (leb (total image (opsOf buffer)) i) 23 0
     ∷ []

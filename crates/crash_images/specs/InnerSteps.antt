@@ -11,7 +11,7 @@ use lib.ListN.{length, getD}
 use lib.Dec.{eqb}
 use Rattle.device.specs.Ops.{Op, store, flush}
 use Rattle.device.specs.Crash.{within}
-use Rattle.crash_images.specs.CrashImages.{opsOf}
+use Rattle.device.specs.ReadOps.{opsOf}
 
 pub record Entry : Type 0 where
   pub word : ℕ

@@ -11,7 +11,7 @@ use lib.Seq.{getD-set-other}
 use lib.Dec.{ltb, eqb}
 use borrow.Author.Tests.{ltb-true, ltb-false, lt-ltb, le-ltb, le-leb, lt-leb}
 use Rattle.device.specs.Crash.{within}
-use Rattle.crash_images.specs.CrashImages.{opsOf}
+use Rattle.device.specs.ReadOps.{opsOf}
 use Rattle.crash_images.specs.InnerSteps.{Entry, entry, entriesIn, inTable, without, tableAt, flushedAt, tableCount, GoodOps}
 use Rattle.crash_images.proofs.TableLaws.{entries-put, kept-turn}
 use Rattle.crash_images.proofs.BufferLaws.{ops-long, table-stored, table-flushed}

@@ -9,13 +9,14 @@ use denote.Ref.{now}
 use borrow.Author.Needs.{needs}
 use Rattle.state.proofs.AndLaws.{went-on}
 use Rattle.scan.proofs.OrLaws.{stopped}
-use Rattle.crash_images.specs.CrashImages.{badOpFrom}
+use Rattle.crash_images.specs.CrashImages.{opOk}
+use Rattle.device.specs.ReadOps.{firstOther}
 use Rattle.call_crash_images.proofs.OpLaws.{bad-goes-on, bad-here, bad-short, bad-none}
 use Rattle.call_crash_images.proofs.bad_op.Statement.{statement}
 use Rattle.call_crash_images.proofs.bad_op.Tie as tie
 
 abbrev Inv-loop : tie.InvT-loop
-Inv-loop n ops k₀ k = (badOpFrom n k (drop (k * 3) ops) ≡ badOpFrom n 0 ops) × (k * 3 ≤ length ops)
+Inv-loop n ops k₀ k = (firstOther (opOk n) k (drop (k * 3) ops) ≡ firstOther (opOk n) 0 ops) × (k * 3 ≤ length ops)
 
 abbrev μ-loop : tie.MeasureT-loop
 μ-loop n ops k₀ k = length ops - k
@@ -24,7 +25,7 @@ returns : tie.Need-returns Inv-loop μ-loop
 returns c =
     let l = c .before .before .before .before .before .before in
     let a = l .before .before .args in
-    let e : badOpFrom (a .n) 0 (now (a .ops)) ≡ some (l .loop .k) = sym (l .loop .inv .0) ∙ bad-here (a .n)
+    let e : firstOther (opOk (a .n)) 0 (now (a .ops)) ≡ some (l .loop .k) = sym (l .loop .inv .0) ∙ bad-here (a .n)
     (now (a .ops)) (l .loop .k) (omega arith) (stopped _ (c .before .op-ok .ensures) (c .if1 .taken)) in
     rw e
 
@@ -41,7 +42,7 @@ returns-2 : tie.Need-returns-2 Inv-loop μ-loop
 returns-2 c =
     let l = c .before .before in
     let a = l .before .before .args in
-    let e : badOpFrom (a .n) 0 (now (a .ops)) ≡ some (l .loop .k) = sym (l .loop .inv .0) ∙ bad-short (a .n)
+    let e : firstOther (opOk (a .n)) 0 (now (a .ops)) ≡ some (l .loop .k) = sym (l .loop .inv .0) ∙ bad-short (a .n)
     (l .loop .k) (drop (l .loop .k * 3) (now (a .ops))) (rw length-drop (omega arith)) (rw length-drop (omega arith)) in
     rw e
 
@@ -49,7 +50,7 @@ returns-3 : tie.Need-returns-3 Inv-loop μ-loop
 returns-3 c =
     let l = c .before .before in
     let a = l .before .before .args in
-    let e : badOpFrom (a .n) 0 (now (a .ops)) ≡ none =
+    let e : firstOther (opOk (a .n)) 0 (now (a .ops)) ≡ none =
     sym (l .loop .inv .0)
     ∙ bad-none (a .n) (l .loop .k) (drop (l .loop .k * 3) (now (a .ops))) (rw length-drop (omega arith)) in
     rw e

@@ -6,7 +6,8 @@ use lib.ListN.{length}
 use denote.Ref.{now}
 use borrow.Author.Needs.{needs}
 use Rattle.refusal.proofs.RowLaws.{none-failed, came-to}
-use Rattle.crash_images.specs.CrashImages.{opsOf, maxCrashes, total}
+use Rattle.crash_images.specs.CrashImages.{maxCrashes, total}
+use Rattle.device.specs.ReadOps.{opsOf}
 use Rattle.call_crash_images.specs.InnerPut.{lentTests}
 use Rattle.call_crash_images.proofs.CallLaws.{Fine, fine, fine-ops, crash-refused, crash-over, crash-none, crash-granted, says-refused, says-granted}
 use Rattle.call_crash_images.proofs.crash_image.Statement.{statement}

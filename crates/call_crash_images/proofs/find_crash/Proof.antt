@@ -6,7 +6,7 @@ use native.Mathlib.Omega.{arith}
 use lib.ListN.{length}
 use denote.Ref.{now}
 use borrow.Author.Needs.{needs}
-use Rattle.crash_images.specs.CrashImages.{opsOf}
+use Rattle.device.specs.ReadOps.{opsOf}
 use Rattle.crash_images.specs.InnerSteps.{tableAt, crashesBefore}
 use Rattle.crash_table.specs.InnerTable.{IsTable}
 use Rattle.call_crash_images.proofs.SumLaws.{table-empty, before-none, before-total, point-fits, find-goes-on, find-turn, found, group-inside}

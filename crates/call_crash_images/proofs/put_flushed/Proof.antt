@@ -7,7 +7,7 @@ use native.Mathlib.Omega.{arith}
 use lib.ListN.{length}
 use denote.Ref.{now}
 use borrow.Author.Needs.{needs}
-use Rattle.crash_images.specs.CrashImages.{opsOf}
+use Rattle.device.specs.ReadOps.{opsOf}
 use Rattle.call_crash_images.proofs.PutLaws.{FlushedTo, flushed-start, flushed-turn, flushed-all}
 use Rattle.call_crash_images.proofs.put_flushed.Statement.{statement}
 use Rattle.call_crash_images.proofs.put_flushed.Tie as tie

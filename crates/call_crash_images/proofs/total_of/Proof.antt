@@ -6,7 +6,8 @@ use native.Mathlib.Omega.{arith}
 use lib.ListN.{length}
 use denote.Ref.{now}
 use borrow.Author.Needs.{needs}
-use Rattle.crash_images.specs.CrashImages.{opsOf, maxCrashes}
+use Rattle.crash_images.specs.CrashImages.{maxCrashes}
+use Rattle.device.specs.ReadOps.{opsOf}
 use Rattle.crash_images.specs.InnerSteps.{tableAt, crashesBefore}
 use Rattle.crash_table.specs.InnerTable.{IsTable, tableRoom}
 use Rattle.call_crash_images.proofs.SumLaws.{table-empty, before-first, point-fits, next-fits, sum-turn, sum-ends, sum-goes-on, count-ops, group-inside}

@@ -3,7 +3,7 @@ use mathlib.Core.Path.{_≡_, refl}
 use Prim.Native.Nat.{_-_, _≤_}
 use native.Mathlib.Omega.{arith}
 use borrow.Author.Needs.{needs}
-use Rattle.crash_images.specs.CrashImages.{opsOf}
+use Rattle.device.specs.ReadOps.{opsOf}
 use Rattle.crash_images.specs.InnerSteps.{newestAt, flushedAt}
 use Rattle.crash_images.proofs.BufferLaws.{held-turn}
 use Rattle.crash_table.proofs.held_at.Statement.{statement}
