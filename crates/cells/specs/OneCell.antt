@@ -8,11 +8,11 @@
 -- Cites crates/scan/specs/Open.antt, Scan.antt and Listed.antt, and crates/layout/specs/Ring.antt.
 use mathlib.Core.Path.{_≡_}
 use mathlib.Core.List.{List, _∷_, _++_}
-use Prim.Native.Nat.{ℕ, _+_, _<_}
+use Prim.Native.Nat.{ℕ, _+_, _≤_, _<_}
 use lib.ListN.{getD, set}
 use Rattle.crc_spec.specs.Burst.{Within32}
 use Rattle.refusal.specs.Tests.{damagedBy, ok, refused}
-use Rattle.layout.specs.Record.{sizeOf, payloadWords}
+use Rattle.layout.specs.Record.{maxPayload, sizeOf, payloadWords, markOf, kindOf, lengthOf, checkOf}
 use Rattle.layout.specs.Ring.{areaOf, ringWord, payloadOf}
 use Rattle.layout.specs.Superline.{copyStart, selector}
 use Rattle.scan.specs.declared.Found.{Found}
@@ -108,22 +108,27 @@ OneWord =
     (image : List ℕ) → Opens image → (w v : ℕ) → Outside image w
     → BeforeHolder image w v × NoHolder image w v × Elsewhere image w v
 
--- "the walk stops as damaged at that very record": those before it are found, and 12 is given with its LSN and the test
--- `check`, the sixth
-pub record DamagedAt (old new : List ℕ) (zs : List Found) (r : Found) : Type 0 where
+-- "the walk stops as damaged at that very record": those before it are found, and 12 is given with its LSN and the
+-- number of a test
+pub record DamagedAt (test : ℕ) (old new : List ℕ) (zs : List Found) (r : Found) : Type 0 where
   pub opens : Opens new
   pub found : (scan new) .found ≡ zs
-  pub ends : (scan new) .end ≡ refused (damagedBy 6 (r .lsn))
+  pub ends : (scan new) .end ≡ refused (damagedBy test (r .lsn))
   pub payloads : SamePayloads old new zs
 
--- "either only padding changed and the listing is the same, or ..": padding is what is not of the record's L bytes
+-- "either only padding changed and the listing is the same, or ..": padding is what is not of the record's L bytes; the
+-- test is `check`, the sixth
 pub data PaddingOrDamage (old new : List ℕ) (zs : List Found) (r : Found) : Type 0 where
   padding : payload new r ≡ payload old r → AllSame old new → PaddingOrDamage old new zs r
-  damage : (payload new r ≡ payload old r → ⊥) → DamagedAt old new zs r → PaddingOrDamage old new zs r
+  damage : (payload new r ≡ payload old r → ⊥) → DamagedAt 6 old new zs r → PaddingOrDamage old new zs r
 
--- "one payload word of a walked record": word q of a record's payload
+-- word i of a record
+abbrev pub recordWord : List ℕ → Found → ℕ → ℕ
+recordWord image r i = ringWord (areaOf image) (r .pos + i)
+
+-- "one payload word of a walked record": word q of its payload
 abbrev pub payloadWord : List ℕ → Found → ℕ → ℕ
-payloadWord image r q = ringWord (areaOf image) (r .pos + 3 + q)
+payloadWord image r q = recordWord image r (3 + q)
 
 -- "the change lies within 32 neighbouring bits" of it
 unfoldable pub OneBurst : Type 0
@@ -133,6 +138,23 @@ OneBurst =
     → (q : ℕ) → q < payloadWords (r .length) → (v p : ℕ)
     → Within32 p (getD image (payloadWord image r q) 0) v
     → PaddingOrDamage image (set image (payloadWord image r q) v) zs r
+
+-- Beside that, what the other words of a record do: word 0 with a mark above 2, with kind 0, too long, or with another
+-- kind; word 1; word 2 with another check. (A length, a mark from 0 to 2 or an epoch may change with no test failing.)
+unfoldable pub EachWord : Type 0
+EachWord =
+    (image : List ℕ) → Opens image
+    → (zs rest : List Found) (r : Found) → (scan image) .found ≡ zs ++ (r ∷ rest) → (v : ℕ)
+    → let with0 = set image (recordWord image r 0) v in
+    let with1 = set image (recordWord image r 1) v in
+    let with2 = set image (recordWord image r 2) v in
+    (2 < markOf v → DamagedAt 1 image with0 zs r)
+    × (1 ≤ markOf v → markOf v ≤ 2 → kindOf v ≡ 0 → DamagedAt 2 image with0 zs r)
+    × (1 ≤ markOf v → markOf v ≤ 2 → 1 ≤ kindOf v → maxPayload < lengthOf v → DamagedAt 3 image with0 zs r)
+    × (1 ≤ markOf v → markOf v ≤ 2 → 1 ≤ kindOf v → lengthOf v ≡ r .length → (kindOf v ≡ r .kind → ⊥)
+    → DamagedAt 6 image with0 zs r)
+    × ((v ≡ r .lsn → ⊥) → DamagedAt 5 image with1 zs r)
+    × ((checkOf v ≡ checkOf (getD image (recordWord image r 2) 0) → ⊥) → DamagedAt 6 image with2 zs r)
 
 -- The same in the request's words, over what is listed.
 -- a record is listed with its payload

@@ -1,5 +1,5 @@
--- What one bad cell can do to loglist's text: from crates/cells/proofs/CellTheorem.antt, since a line is made of its
--- record and its payload.
+-- What one bad cell can do to loglist's text: from the theorems of crate cells, since a line is made of its record and
+-- its payload.
 -- Cites specs/CellText.antt.
 use mathlib.Core.Path.{_≡_, refl, sym, ap, ap₂, _∙_}
 use mathlib.Core.List.{List, [], _∷_, _++_, append-assoc}
@@ -13,7 +13,8 @@ use Rattle.scan.proofs.AmongLaws.{listed-found, listed-append}
 use Rattle.list_lines.specs.Lines.{heading, recordLine, damagedLine, stopLine}
 use Rattle.list_image.specs.Listing.{foundLine, foundLines, lastLine, scanText, openText, listingText}
 use Rattle.cells.specs.OneCell.{Opens, SamePayloads, Unchanged, AllSame, DamagedAt, PaddingOrDamage, padding, damage, OneWord, OneBurst}
-use Rattle.cells.proofs.CellTheorem.{one-word, one-burst}
+use Rattle.cells.proofs.OneRecordTheorem.{one-burst}
+use Rattle.cells.proofs.OneWordTheorem.{one-word}
 use Rattle.list_cells.specs.CellText.{Begins, OneWordText, SameTextOrDamage, same-text, damage-line, OneBurstText}
 
 lines-append : (image : List ℕ) (xs ys : List Found)
@@ -64,7 +65,7 @@ text-same old new opens a =
     (listed-same old new ((scan old) .found) (a .payloads))
     ∙ sym (opened-as old opens)
 
-damaged-text : (old new : List ℕ) (zs : List Found) (r : Found) → DamagedAt old new zs r
+damaged-text : (old new : List ℕ) (zs : List Found) (r : Found) → DamagedAt 6 old new zs r
     → listingText new ≡ heading ++ (foundLines old (listed zs) ++ damagedLine (r .lsn) 6)
 unfolding stopLine
 damaged-text old new zs r d =
