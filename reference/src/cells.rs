@@ -11,13 +11,14 @@ use crate::images::image;
 use crate::layout::{
     record_check, record_size, words_of_bytes, CheckWord, Header, Ring, Superline, COPY_WORDS,
     HEADER_WORDS, MARK_COMMITTED, MARK_NONE, MARK_RELEASED, MAX_EPOCH, MAX_KIND, MAX_LENGTH,
-    SELECTOR_WORD,
+    SELECTOR_WORD, TABLE_SIZE,
 };
 use crate::loglist::{end_line, hex, loglist, stop_line, HEADING};
 use crate::refusal::RecordTest;
 use crate::rng::Rng;
 use std::fmt::Write as _;
 use std::io;
+use std::ops::Range;
 use std::path::Path;
 use std::time::{Duration, Instant};
 
@@ -54,12 +55,14 @@ pub enum Variant {
     Refused,
     /// Another mark is always seen.
     Mark,
+    /// Another length is always seen.
+    Length,
     /// Another epoch is always seen.
     Epoch,
 }
 
 impl Variant {
-    pub const ALL: [(&'static str, Variant); 10] = [
+    pub const ALL: [(&'static str, Variant); 11] = [
         ("thirty-three-bits", Variant::ThirtyThreeBits),
         ("any-word", Variant::AnyWord),
         ("end-word", Variant::EndWord),
@@ -69,6 +72,7 @@ impl Variant {
         ("short-holder", Variant::ShortHolder),
         ("refused", Variant::Refused),
         ("mark", Variant::Mark),
+        ("length", Variant::Length),
         ("epoch", Variant::Epoch),
     ];
 
@@ -153,7 +157,8 @@ pub fn cells(
             break;
         }
         let (name, bytes) = image(seed);
-        if let Some(log) = words_of_bytes(&bytes).and_then(|words| Log::of_image(name, words)) {
+        let log = words_of_bytes(&bytes).and_then(|words| Log::of_image(name, words));
+        if let Some(log) = log.and_then(|log| log.with_two_lengths(seed)) {
             bench.report.images += 1;
             bench.image(seed, &log)?;
         }
@@ -203,6 +208,17 @@ impl Log {
         Some(Log { name, image, ring, superline_epoch, records, end, last_line, refused })
     }
 
+    /// The same with the last bytes of some records, as the seed has it, such that their checks fit another length too.
+    fn with_two_lengths(mut self, seed: u64) -> Option<Log> {
+        let mut rng = Rng::new(seed ^ 0x2E46);
+        for Found { record, .. } in &self.records {
+            if record.length >= SHORTER && rng.chance(1, 3) {
+                fit_two_lengths(self.ring, &mut self.image, record);
+            }
+        }
+        Log::of_image(self.name, self.image)
+    }
+
     /// The number of the image's word that is so many behind the first of a record.
     fn word(&self, record: &Record, words: u64) -> usize {
         self.ring.word(record.position, words) as usize
@@ -212,20 +228,21 @@ impl Log {
         self.ring.word(self.end.position, 0) as usize
     }
 
-    /// The selector, and the words of the copy that it names.
-    fn is_selector(&self, word: usize) -> bool {
-        word == SELECTOR_WORD as usize
-    }
-
-    fn in_active_copy(&self, word: usize) -> bool {
+    /// The words of the copy that the selector names.
+    fn active_copy(&self) -> Range<usize> {
         let first = Superline::first_word(self.image[SELECTOR_WORD as usize]) as usize;
-        (first..first + COPY_WORDS).contains(&word)
+        first..first + COPY_WORDS
     }
 
     /// Whether the claims speak of a change of this word.
     fn covers(&self, variant: Option<Variant>, word: usize) -> bool {
-        (!self.is_selector(word) || variant == Some(Variant::Selector))
-            && (!self.in_active_copy(word) || variant == Some(Variant::ActiveCopy))
+        if word == SELECTOR_WORD as usize {
+            variant == Some(Variant::Selector)
+        } else if self.active_copy().contains(&word) {
+            variant == Some(Variant::ActiveCopy)
+        } else {
+            true
+        }
     }
 
     /// The record that holds a word, and which of its words that is.
@@ -262,6 +279,34 @@ impl Found {
     }
 }
 
+/// By how many bytes a record can be shorter with the same check: four can make up for any difference.
+const SHORTER: u64 = 4;
+
+/// Changes a record's last four bytes, and its check, so that the check fits it without them too.
+fn fit_two_lengths(ring: Ring, image: &mut [u64], record: &Record) {
+    let Record { position, lsn, kind, length, .. } = *record;
+    let shorter = length - SHORTER;
+    let start: Vec<u8> = ring.payload(image, position, shorter).collect();
+    let check_of = |length| record_check(length, kind, lsn, start.iter().copied());
+    let (check, before) = (check_of(shorter), check_of(length));
+    // From the remainder that is wanted back over 32 bits of 0: where that differs from the one there is, the bytes have a 1.
+    let mut remainder = !(check as u32);
+    for _ in 0..32 {
+        remainder = match remainder >> 31 {
+            0 => remainder << 1,
+            _ => (remainder ^ (UNSEEN >> 1) as u32) << 1 | 1,
+        };
+    }
+    let last = (remainder ^ !(before as u32)).to_le_bytes();
+    for (byte, at) in last.into_iter().zip(shorter..) {
+        let word = &mut image[ring.word(position, HEADER_WORDS + at / 8) as usize];
+        let shift = 8 * (at % 8);
+        *word = *word & !(0xFF << shift) | u64::from(byte) << shift;
+    }
+    let word = &mut image[ring.word(position, 2) as usize];
+    *word = CheckWord { check, ..CheckWord::of_word(*word) }.word();
+}
+
 fn line(record: &Record, payload: Vec<u8>) -> String {
     format!("{} {} {} {}\n", record.lsn, record.kind, record.length, hex(&payload))
 }
@@ -278,19 +323,21 @@ struct Due {
 enum Then {
     /// One of these, and nothing more.
     OneOf(Vec<String>),
-    /// Anything but this.
+    /// Other lines than these.
     Not(String),
-    Anything,
+    /// Lines that start so.
+    Starts(String),
 }
 
 impl Due {
     fn is(&self, text: &str) -> bool {
-        match (text.strip_prefix(self.start.as_str()), &self.then) {
-            (None, _) => false,
-            (Some(rest), Then::OneOf(texts)) => texts.iter().any(|text| text == rest),
-            (Some(rest), Then::Not(text)) => rest != text,
-            (Some(rest), Then::Anything) => !rest.is_empty(),
-        }
+        let Some(rest) = text.strip_prefix(self.start.as_str()) else { return false };
+        rest.ends_with('\n')
+            && match &self.then {
+                Then::OneOf(texts) => texts.iter().any(|text| text == rest),
+                Then::Not(text) => rest != text,
+                Then::Starts(text) => rest.starts_with(text),
+            }
     }
 }
 
@@ -299,6 +346,7 @@ const UNHELD: &str = "same: no record's word";
 const UNHELD_REFUSED: &str = "records stay: no record's word of a refused walk";
 const END_UNMARKED: &str = "same: end's word without a mark";
 const END_MARKED: &str = "records stay: end's word with a mark";
+const END_TOO_MANY: &str = "too many: end's word with a mark behind 256 records";
 const PADDING: &str = "same: padding";
 const PAYLOAD: &str = "check: 32 bits of a payload word";
 const PAYLOAD_WIDE: &str = "check or not seen: more bits of it";
@@ -312,16 +360,19 @@ const LENGTH: &str = "length";
 const FIT: &str = "fit";
 const OTHER_KIND: &str = "check: another kind";
 const OTHER_LENGTH: &str = "check: another length";
+const LENGTH_UNSEEN: &str = "not seen: another length";
+const LENGTH_AND_SIZE_UNSEEN: &str = "not seen here: another length and size";
 const LSN: &str = "LSN";
 const CHECK: &str = "check: word 2";
 const EPOCH: &str = "epoch";
 const NEXT_EPOCH: &str = "epoch of the next record";
 const OTHER_EPOCH: &str = "same: another epoch";
-pub const DUE: [&str; 22] = [
+pub const DUE: [&str; 25] = [
     UNHELD,
     UNHELD_REFUSED,
     END_UNMARKED,
     END_MARKED,
+    END_TOO_MANY,
     PADDING,
     PAYLOAD,
     PAYLOAD_WIDE,
@@ -335,6 +386,8 @@ pub const DUE: [&str; 22] = [
     FIT,
     OTHER_KIND,
     OTHER_LENGTH,
+    LENGTH_UNSEEN,
+    LENGTH_AND_SIZE_UNSEEN,
     LSN,
     CHECK,
     EPOCH,
@@ -351,11 +404,14 @@ impl Log {
             let at_end = word == self.end_word();
             let mark = Header::of_word(value).mark;
             return if self.refused && (at_end || variant != Some(Variant::Refused)) {
-                Due { then: Then::Anything, ..same(UNHELD_REFUSED) }
+                Due { then: anything(), ..same(UNHELD_REFUSED) }
             } else if !at_end || variant == Some(Variant::EndWord) {
                 same(UNHELD)
             } else if mark == MARK_NONE {
                 same(END_UNMARKED)
+            } else if all == TABLE_SIZE {
+                let too_many = format!("toomany {}\n", self.end.lsn);
+                Due { then: one(too_many), ..same(END_TOO_MANY) }
             } else {
                 // The walk goes on, or it is refused here.
                 Due { then: Then::Not(self.rest(all)), ..same(END_MARKED) }
@@ -370,7 +426,7 @@ impl Log {
                 Due { name: "damage or the same", start: self.before(j), then: Then::OneOf(texts) }
             }
             Some(Variant::Holder) => {
-                Due { name: "holder stays", start: self.before(j + 1), then: Then::Anything }
+                Due { name: "holder stays", start: self.before(j + 1), then: anything() }
             }
             _ => {
                 let (name, then) = match words {
@@ -414,11 +470,19 @@ impl Log {
         } else if used + record_size(length) >= self.ring.capacity() {
             (FIT, self.damaged(j, "fit"))
         } else if length != found.record.length {
-            // The check fits another length by chance only, and then nothing is due.
-            if fits() {
-                return (OTHER_LENGTH, Then::Anything);
+            if !fits() || variant == Some(Variant::Length) {
+                (OTHER_LENGTH, self.damaged(j, "check"))
+            } else {
+                let record = Record { kind, length, mark, ..found.record };
+                let payload = self.ring.payload(&self.image, position, length);
+                let line = line(&record, payload.collect());
+                let listed = Found { record, line }.listed().to_string();
+                if record_size(length) != record_size(found.record.length) {
+                    // What follows is read from another place.
+                    return (LENGTH_AND_SIZE_UNSEEN, Then::Starts(listed));
+                }
+                (LENGTH_UNSEEN, listed + &behind)
             }
-            (OTHER_LENGTH, self.damaged(j, "check"))
         } else if kind != found.record.kind {
             (OTHER_KIND, self.damaged(j, "check"))
         } else if mark == MARK_RELEASED {
@@ -451,7 +515,7 @@ impl Log {
                 (NEXT_EPOCH, one(stays + &self.damaged(j + 1, "epoch")))
             }
             // What was refused behind it may have been refused for its epoch.
-            None if self.refused => (OTHER_EPOCH, Then::Anything),
+            None if self.refused => (OTHER_EPOCH, anything()),
             _ => (OTHER_EPOCH, one(self.rest(j))),
         }
     }
@@ -488,6 +552,10 @@ impl Log {
     }
 }
 
+fn anything() -> Then {
+    Then::Starts(String::new())
+}
+
 fn one(text: String) -> Then {
     Then::OneOf(vec![text])
 }
@@ -506,7 +574,7 @@ type Change = (usize, u64);
 const IN_TURN: &str = "in turn";
 
 /// The other kinds; none if the image has nothing of it.
-const CHANGES: [(&str, fn(&Log, &mut Rng) -> Option<Change>); 13] = [
+const CHANGES: [(&str, fn(&Log, &mut Rng) -> Option<Change>); 14] = [
     ("at will", |log, rng| Some((any_word(log, rng), rng.next_u64()))),
     ("bit", |log, rng| {
         let word = any_word(log, rng);
@@ -524,7 +592,7 @@ const CHANGES: [(&str, fn(&Log, &mut Rng) -> Option<Change>); 13] = [
     ("last payload word", |log, rng| {
         let record = any_record(log, rng).filter(|record| record.length > 0)?;
         let word = log.word(&record, record_size(record.length) - 1);
-        let padding = u64::MAX.checked_shl(8 * (record.length % 8) as u32).unwrap_or(0);
+        let padding = u64::MAX << (8 * (record.length % 8));
         let bits = [1 << rng.below(64), burst(rng), rng.next_u64()];
         Some((word, log.image[word] ^ rng.pick(&bits) & rng.pick(&[padding, u64::MAX])))
     }),
@@ -553,6 +621,9 @@ const CHANGES: [(&str, fn(&Log, &mut Rng) -> Option<Change>); 13] = [
             },
             ..good
         })
+    }),
+    ("length that may fit", |log, rng| {
+        header(log, rng, |good| Header { length: good.length.saturating_sub(SHORTER), ..good })
     }),
     ("LSN", |log, rng| {
         let record = any_record(log, rng)?;
@@ -638,6 +709,10 @@ impl Bench<'_> {
     }
 
     fn image(&mut self, seed: u64, log: &Log) -> io::Result<()> {
+        let damaged = log.refused && log.records.len() < TABLE_SIZE;
+        if self.variant == Some(Variant::Refused) && !damaged {
+            return Ok(());
+        }
         let mut rng = Rng::new(seed ^ 0xCE11);
         let whole = Due { name: "unchanged", start: log.before(0), then: one(log.rest(0)) };
         let bytes = bytes_of(&log.image);
@@ -656,14 +731,13 @@ impl Bench<'_> {
             let change = match self.variant {
                 Some(Variant::Selector) => Some((SELECTOR_WORD as usize, rng.below(3))),
                 Some(Variant::ActiveCopy) => {
-                    let first = Superline::first_word(log.image[SELECTOR_WORD as usize]);
-                    let word = (first + rng.below(COPY_WORDS as u64)) as usize;
+                    let word = log.active_copy().start + rng.below(COPY_WORDS as u64) as usize;
                     Some((word, log.image[word] ^ 1 << rng.below(64)))
                 }
-                // A word of the record that was refused, behind its first.
+                // A word of the damaged record, behind its first.
                 Some(Variant::Refused) => {
                     let word = log.ring.word(log.end.position, rng.between(1, 2)) as usize;
-                    Some((word, rng.next_u64())).filter(|_| log.refused)
+                    Some((word, rng.next_u64()))
                 }
                 _ => make(log, &mut rng),
             };
