@@ -573,8 +573,11 @@ type Change = (usize, u64);
 /// The first kind: each word in turn.
 const IN_TURN: &str = "in turn";
 
-/// The other kinds; none if the image has nothing of it.
-const CHANGES: [(&str, fn(&Log, &mut Rng) -> Option<Change>); 14] = [
+/// The name of a kind, and how a change of it is made; none if the image has nothing of it.
+type Kind = (&'static str, fn(&Log, &mut Rng) -> Option<Change>);
+
+/// The other kinds.
+const CHANGES: [Kind; 14] = [
     ("at will", |log, rng| Some((any_word(log, rng), rng.next_u64()))),
     ("bit", |log, rng| {
         let word = any_word(log, rng);
