@@ -40,7 +40,7 @@ listed-same old new zs f = lines-same old new (listed zs) (λ z m. f z (listed-f
 opened-as : (image : List ℕ) → Opens image
     → listingText image ≡ heading ++ (foundLines image (listed ((scan image) .found)) ++ lastLine ((scan image) .end))
 unfolding listingText scanText
-opened-as image e = ap (openText image) e
+opened-as image e = ap (openText (heading ++ scanText image (scan image))) e
 
 begins : (old new : List ℕ) (zs : List Found) → Unchanged old new zs → Begins old new zs
 begins old new zs u =
