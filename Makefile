@@ -8,7 +8,7 @@ reference = reference/target/release/reference
 archive = target/lib/libdrivelog.a
 tool = target/bin/drivelog
 # The crates whose functions are the calls for C: those that read an image's bytes, and those of the log with its state in lent words.
-c_crates = c_query c_read c_write c_three
+c_crates = c_query c_read c_write c_three c_vet
 # What the archive is made of: the files of these crates and of all that they stand on.
 c_sources := $(shell tools/sources $(c_crates))
 cli_c = $(wildcard cli/*.c) driver/driver.c
@@ -116,17 +116,18 @@ bench: programs bench-c
 	cd reference && cargo build --profile plain --offline --quiet --bin plain_bench
 	$(reference) bench target/bin/bench reference/target/plain/plain_bench target/bench/crc target/bench/pmemlog \
 	  --calls target/bench/calls --append target/bench/append --append-pmem target/bench/append-pmem --three target/bench/three \
-	  --rounds $(ROUNDS)
+	  --vet target/bench/vet --rounds $(ROUNDS)
 
 append_c = -std=c11 -O2 -Wall -Wextra -Iinclude -Idriver
 append_from = tests/bench/append.c driver/driver.c $(archive)
 bench-c:
 	mkdir -p target/bench
 	gcc -O2 -Wall -Wextra -o target/bench/crc tests/bench/crc.c -lz
-	rm -f target/bench/calls target/bench/append target/bench/append-pmem target/bench/pmemlog target/bench/three
+	rm -f target/bench/calls target/bench/append target/bench/append-pmem target/bench/pmemlog target/bench/three target/bench/vet
 	if [ -e $(archive) ]; then \
 	  gcc -O2 -Wall -Wextra -Iinclude -o target/bench/calls tests/bench/calls.c $(archive) -lz && \
 	  gcc -O2 -Wall -Wextra -Iinclude -o target/bench/three tests/bench/three.c $(archive) -lz && \
+	  gcc -O2 -Wall -Wextra -Iinclude -o target/bench/vet tests/bench/vet.c $(archive) && \
 	  gcc $(append_c) -o target/bench/append $(append_from) -lz; fi
 	if [ -e $(archive) ] && pkg-config --exists libpmem; then \
 	  gcc $(append_c) -DDRIVER_PMEM -o target/bench/append-pmem $(append_from) -lz $$(pkg-config --cflags --libs libpmem); fi

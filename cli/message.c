@@ -176,6 +176,7 @@ static const char *refusal_in_words(char *text, size_t room)
         snprintf(text, room, "too many records: the log holds 256, and LSN %" PRIu64 " is one more", detail);
         return text;
     case DRIVELOG_OPS_SHORT: snprintf(text, room, "the op buffer is too short: %" PRIu64 " words are needed", detail); return text;
+    case DRIVELOG_BAD_OP: snprintf(text, room, "op %" PRIu64 " does not pass", detail); return text;
     default: return drivelog_refusal_text((int64_t)reply[DRIVELOG_REPLY_NUMBER]);
     }
 }

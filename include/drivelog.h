@@ -56,7 +56,8 @@ enum drivelog_refusal {
     DRIVELOG_NO_SUCH_RECORD = 16, /* index is not below the number of listed records */
     DRIVELOG_OUTPUT_SHORT = 14,   /* the output, the rows, the reply, the cursor or the record have too little room */
     DRIVELOG_OPS_SHORT = 15,      /* the op buffer is too short; detail: the words needed */
-    DRIVELOG_TOO_FEW_COPIES = 19  /* of three modules fewer than two can be read */
+    DRIVELOG_TOO_FEW_COPIES = 19, /* of three modules fewer than two can be read */
+    DRIVELOG_BAD_OP = 21          /* an op of somebody else does not pass; detail: its number, counted from 0, the lowest such one's */
 };
 
 static inline const char *drivelog_refusal_text(int64_t number)
@@ -90,6 +91,7 @@ static inline const char *drivelog_refusal_text(int64_t number)
     case DRIVELOG_NO_SUCH_RECORD: return "no such record";
     case DRIVELOG_TOO_FEW_COPIES: return "fewer than two copies can be read";
     case DRIVELOG_HELD: return "a later record rests on this one";
+    case DRIVELOG_BAD_OP: return "an op does not pass";
     default: return "no refusal of this version";
     }
 }
@@ -269,8 +271,8 @@ int64_t drivelog_payload_at(const uint8_t *image, size_t bytes, uint64_t pos, ui
  * type. Where the count is 0 the pointer is not followed and may be null. What is written may overlap nothing else that is lent to
  * the same call. A call keeps nothing and allocates nothing, so calls with different words may run in several threads at once.
  *
- * Stack: a call takes at most 20,480 bytes (20 KB), the recovery of three 32,768; reserve, copy, complete and release take at most
- * 1,024.
+ * Stack: a call takes at most 20,480 bytes (20 KB), the recovery of three 32,768; reserve, copy, complete, release and vet take at
+ * most 1,024.
  *
  * Time: every call tests the whole state, so that it grows with the live records. An append, that is reserve, copy, complete, force at
  * every eighth record and a release, takes about 0.5 microseconds with no live record and 2 to 3 with 250, plus the CRC-32 of a longer
@@ -486,6 +488,34 @@ enum drivelog_three {
     DRIVELOG_THREE_REPLY_WORDS = 5,
     DRIVELOG_THREE_OPS_WORDS = 24621 /* words of an op buffer that is always enough for a module: 3 * (8192 + 15) */
 };
+
+int64_t drivelog_vet(const uint64_t *state, size_t state_words, const uint64_t *image, size_t image_words, const uint64_t *ops,
+                     size_t ops_words, uint64_t *reply, size_t reply_words);
+/*
+     Whether ops that somebody else made, such as notes in free words, may be carried out. They pass if each is a store to a word of the
+   log area, which begins at word 24, that is no live record's and not the one at the next position, where the terminator is; or a flush
+   of one or more words, all inside the image. Released records are live until the head is past them, and so are those not yet committed.
+   A store may have any value, and a flush may cover any words. Every word of `ops` counts, three to an op; of the image only the length
+   does. Nothing is written but the reply, whose count of ops is 0, since the call puts none.
+
+     For whoever makes the ops: have them vetted, and then carry them out at once, with no call between, for a call may put a record where
+   a word was free; the stores go into the working image too. Ops that pass do no harm: a power failure in them leaves a log that reads
+   and recovers like one that a power failure just before them could have left.
+
+     Returns the number of ops, ops_words / 3, or -DRIVELOG_IMAGE_SIZE, -DRIVELOG_UNSOUND or -DRIVELOG_BAD_OP, whose detail is the number
+   of the lowest op that does not pass, counted from 0. One or two words left over at the end are an op that does not pass. No ops pass.
+
+     It takes about half a microsecond with 250 live records, and one or two nanoseconds for each op.
+
+     Example, with ops from elsewhere:
+
+         int64_t passed = drivelog_vet(state, DRIVELOG_STATE_WORDS, image, 2048, notes, notes_words, reply, 4);
+         for (const uint64_t *op = notes; passed > 0 && op < notes + notes_words; op += DRIVELOG_OP_WORDS)
+             if (op[0] == DRIVELOG_OP_STORE)
+                 image[op[1]] = op[2];
+         if (passed > 0)
+             carry_out(notes, (uint64_t)passed);
+*/
 
 int64_t drivelog_open(const uint64_t *image, size_t image_words, uint64_t *cursor, size_t cursor_words, uint64_t *reply,
                       size_t reply_words);

@@ -24,6 +24,7 @@ const ALL_BY_LIST: u64 = 8;
 const RECOVER_ONE: u64 = 9;
 const RECOVER_THREE: u64 = 10;
 const REPAIR: u64 = 11;
+const VET: u64 = 12;
 /// Release of the head, plus the number of released records behind it.
 const RELEASE: u64 = 1000;
 /// The same with an LSN that is not live: refused right behind the soundness test.
@@ -51,6 +52,8 @@ pub struct Programs<'a> {
     pub append_pmem: Option<&'a Path>,
     /// The recovery of three modules through the calls for C.
     pub three: Option<&'a Path>,
+    /// The check of another unit's ops through the calls for C.
+    pub vet: Option<&'a Path>,
 }
 
 pub enum Failure {
@@ -83,7 +86,7 @@ impl<'a> Program<'a> {
         let Case { job, bytes, live, words } = case;
         let mut input: Vec<u8> =
             [job, bytes, live, count, words].into_iter().flat_map(u64::to_le_bytes).collect();
-        if job >= COUNT_RECORDS {
+        if (COUNT_RECORDS..=REPAIR).contains(&job) {
             static IMAGE: OnceLock<Vec<u8>> = OnceLock::new();
             input.extend_from_slice(IMAGE.get_or_init(|| full_image(FEW)));
         }
@@ -129,6 +132,7 @@ impl Case {
             RECOVER_ONE => "one module",
             RECOVER_THREE => "three equal ones",
             REPAIR => "three, one to repair",
+            VET => "vet of 1,000 ops",
             RELEASE..NOT_LIVE => "release",
             _ => "release of no live LSN",
         }
@@ -301,6 +305,7 @@ pub fn bench(programs: &Programs, rounds: usize, out: &mut impl Write) -> Result
     }
     boundary(programs, rounds, out)?;
     three_modules(programs, rounds, out)?;
+    another_units_ops(programs, rounds, out)?;
     on_a_module(programs, rounds, out)
 }
 
@@ -500,6 +505,33 @@ fn three_modules(programs: &Programs, rounds: usize, out: &mut impl Write) -> Re
         row.extend(if case.job == RECOVER_ONE { no_bar() } else { bar(c / plain, 1.2) });
         row.push(ratio(of_one));
         row.extend(if case.job == RECOVER_THREE { bar(of_one, 3.3) } else { no_bar() });
+        table.row(row);
+    }
+    table.print(out)
+}
+
+/// The check of 1,000 ops of another unit through the calls for C beside plain Rust.
+fn another_units_ops(
+    programs: &Programs,
+    rounds: usize,
+    out: &mut impl Write,
+) -> Result<(), Failure> {
+    let Some(vet) = programs.vet.filter(|path| path.exists()) else {
+        let built = "it is built where target/lib/libdrivelog.a is, which `make lib` writes";
+        return skipped("the check of another unit's ops", programs.vet, built, out);
+    };
+    let pair = [Program::new(vet), Program::new(programs.plain)];
+    let cases: Vec<(Case, &[Program])> = [0, 250]
+        .map(|live| (Case { job: VET, bytes: 64, live, words: LARGEST }, &pair[..]))
+        .to_vec();
+    let mut table = Table::new(
+        "Vet through the calls for C of 1,000 ops, three of four of them stores. Image of 8,192 words, records of 64 bytes.",
+        &["live", "C ns", "plain Rust ns", "ratio", "bar", ""],
+    );
+    for ((case, _), times) in cases.iter().zip(medians(&cases, rounds)?) {
+        let (c, plain) = (times[0], times[1]);
+        let mut row = vec![grouped(case.live), ns(c), ns(plain), ratio(c / plain)];
+        row.extend(bar(c / plain, 1.2));
         table.row(row);
     }
     table.print(out)

@@ -6,11 +6,14 @@
 //! there has to satisfy demand 3, judged by the bench's own abstract log, and each record has to have the epoch of the state that
 //! completed it.
 //!
+//! Between the calls there are ops that another unit made and that passed (slip 12): all carried out, or power fails after any of
+//! them. The same is owed, and each image that is left has to read like one that power could have left just before them.
+//!
 //! Two children run the same program: the subject goes through the history, the prober is only given
 //! crash images. So a history can be looked at after every op without being ended by it.
 
 use crate::abstract_log::{AbstractLog, Completions, WalkedRecord};
-use crate::calls::{walk, Cursor};
+use crate::calls::{fetch, walk, Cursor, Record};
 use crate::device::Device;
 use crate::gen::roomy_op_buffer;
 use crate::layout::{
@@ -19,8 +22,12 @@ use crate::layout::{
     TABLE_SIZE,
 };
 use crate::ops::{Op, OP_WORDS};
+use crate::refusal::Refusal;
+use crate::replay::stage_numbered;
 use crate::rng::Rng;
 use crate::script::{digest, Answer, Command, Outcome};
+use crate::state::{Entry, Stage, State};
+use crate::vet::{free_words, ops_of, vet_by, Rule};
 use std::collections::BTreeSet;
 use std::io::{self, BufRead, BufReader, BufWriter, Write};
 use std::path::PathBuf;
@@ -52,6 +59,9 @@ pub struct Report {
     pub most_epochs: usize,
     /// Crash images with records from before slip 8 before others.
     pub with_stored: u64,
+    /// Op buffers of another unit that passed, and how many of them power failed in, or might have.
+    pub passed: u64,
+    pub passed_crashes: u64,
     pub failure: Option<Failure>,
 }
 
@@ -64,6 +74,16 @@ pub struct Failure {
 
 /// Runs histories with the seeds from `seed` on, until time is up or one fails.
 pub fn crash_bench(program: &Program, seed: u64, time: Duration) -> io::Result<Report> {
+    crash_bench_by(program, free_words, seed, time)
+}
+
+/// The same where another unit's ops pass by another rule.
+pub fn crash_bench_by(
+    program: &Program,
+    rule: Rule,
+    seed: u64,
+    time: Duration,
+) -> io::Result<Report> {
     let start = Instant::now();
     let mut subject = Replayer::start(program)?;
     let mut prober = Replayer::start(program)?;
@@ -71,7 +91,7 @@ pub fn crash_bench(program: &Program, seed: u64, time: Duration) -> io::Result<R
     while report.failure.is_none() && start.elapsed() < time {
         let seed = seed.wrapping_add(report.histories);
         report.histories += 1;
-        let mut history = History::new(seed, &mut subject, &mut prober, &mut report);
+        let mut history = History::new(seed, rule, &mut subject, &mut prober, &mut report);
         if let Err(what) = history.run() {
             report.failure = Some(Failure { seed, what });
         }
@@ -235,6 +255,8 @@ impl Promises {
 
 struct History<'a> {
     rng: Rng,
+    /// By which another unit's ops pass.
+    rule: Rule,
     subject: &'a mut Replayer,
     prober: &'a mut Replayer,
     report: &'a mut Report,
@@ -255,12 +277,14 @@ struct History<'a> {
 impl<'a> History<'a> {
     fn new(
         seed: u64,
+        rule: Rule,
         subject: &'a mut Replayer,
         prober: &'a mut Replayer,
         report: &'a mut Report,
     ) -> Self {
         History {
             rng: Rng::new(seed),
+            rule,
             subject,
             prober,
             report,
@@ -300,6 +324,9 @@ impl<'a> History<'a> {
             self.format()?;
             for _ in 0..steps {
                 self.step(false)?;
+                if self.rng.chance(1, 6) {
+                    self.another_units_ops(Effort::FULL, Effort::SMALL)?;
+                }
             }
         }
         Ok(())
@@ -325,6 +352,9 @@ impl<'a> History<'a> {
             self.fill(wanted)?;
             for _ in 0..30 {
                 self.step(true)?;
+                if self.rng.chance(1, 24) {
+                    self.another_units_ops(Effort::FEW, Effort::FEW)?;
+                }
             }
         }
         Ok(())
@@ -337,7 +367,7 @@ impl<'a> History<'a> {
             self.undisturbed(&Command::ReleaseAll)?; // refused if some are not durable
         }
         let view = self.view()?;
-        let live = view.next_lsn - view.head_lsn;
+        let live = view.state.next_lsn - view.state.head_lsn;
         for i in live..wanted {
             let length = self.rng.pick(&self.lengths);
             let kind = self.rng.between(1, MAX_KIND);
@@ -377,8 +407,11 @@ impl<'a> History<'a> {
         let state = self.subject.ask(&[Command::State])?;
         let view = StateView::parse(&state[0]);
         let view = view.ok_or_else(|| format!("not a state: {}", state[0]))?;
-        if view.epoch != self.epoch {
-            return Err(format!("the state's epoch is {} instead of {}", view.epoch, self.epoch));
+        if view.state.epoch != self.epoch {
+            return Err(format!(
+                "the state's epoch is {} instead of {}",
+                view.state.epoch, self.epoch
+            ));
         }
         Ok(view)
     }
@@ -455,6 +488,48 @@ impl<'a> History<'a> {
         }
         self.carry_out(&answer.ops);
         self.promises.feed(&call, &answer, all, self.epoch);
+        Ok(())
+    }
+
+    /// Ops of another unit that pass, all carried out, or power fails in them.
+    fn another_units_ops(&mut self, full: Effort, small: Effort) -> Result<(), String> {
+        let state = self.view()?.state;
+        let mut op_buffer = self.choose_ops(&state);
+        // What does not pass is left out.
+        while let Err(refusal) = vet_by(self.rule, &state, &self.subject.image, &op_buffer) {
+            let Refusal::BadOp { number } = refusal else {
+                return Err(format!("a state that calls left is refused: {refusal:?}"));
+            };
+            let first = OP_WORDS * number as usize;
+            op_buffer.drain(first..op_buffer.len().min(first + OP_WORDS));
+        }
+        self.report.passed += 1;
+        let ops = ops_of(&op_buffer);
+        let all = ops.len();
+        let some = self.rng.below(all as u64 + 1) as usize;
+        let describe = |what: String| {
+            format!("power fails after {some} of another unit's ops {ops:?}: {what}")
+        };
+        let before = self.device.clone();
+        let fails = self.rng.chance(1, 4);
+        if fails || self.rng.chance(1, 2) {
+            self.report.passed_crashes += 1;
+            let mut device = before.clone();
+            ops[..some].iter().for_each(|&op| device.carry_out(op));
+            let effort = if fails { full } else { small };
+            let images = self.probe(&device, &self.promises.clone(), effort);
+            for image in images.map_err(describe)? {
+                reads_like_before(&before, &image).map_err(describe)?;
+            }
+        }
+        if fails {
+            self.carry_out(&ops[..some]);
+            return self.crash(full).map_err(describe);
+        }
+        self.carry_out(&ops);
+        let image = self.device.newest();
+        let load = self.subject.load(&image);
+        self.subject.ask(&load)?;
         Ok(())
     }
 
@@ -608,8 +683,8 @@ impl<'a> History<'a> {
     // ------------------------------------------------------------ choosing calls
 
     fn choose(&mut self, view: &StateView) -> Command {
-        let open = view.in_stage(OPEN);
-        let committed = view.in_stage(COMMITTED);
+        let open = view.in_stage(Stage::Open);
+        let committed = view.in_stage(Stage::Committed);
         let forceable = view.forceable();
         let keeps = self.keeps;
         let rng = &mut self.rng;
@@ -636,8 +711,13 @@ impl<'a> History<'a> {
             18..=19 if keeps && !open.is_empty() => Command::Complete { lsn: open[0] },
             16 if rng.chance(1, 3) => {
                 // Mostly refused.
-                let lsn =
-                    rng.pick(&[0, view.head_lsn, view.committed_lsn, view.next_lsn, u64::MAX]);
+                let lsn = rng.pick(&[
+                    0,
+                    view.state.head_lsn,
+                    view.state.committed_lsn,
+                    view.state.next_lsn,
+                    u64::MAX,
+                ]);
                 match rng.below(4) {
                     0 => Command::Complete { lsn },
                     1 => Command::Force { lsn, frequency: 1 },
@@ -667,13 +747,50 @@ impl<'a> History<'a> {
         }
     }
 
+    /// Stores anywhere, mostly close to the records' edges, of values that might stand in a record, whole records among them; and
+    /// flushes. Many do not pass.
+    fn choose_ops(&mut self, state: &State) -> Vec<u64> {
+        let rng = &mut self.rng;
+        let words = FIRST_RING_WORD + state.capacity;
+        let mut ops = Vec::new();
+        for _ in 0..rng.between(1, 10) {
+            let (kind, lsn) = (rng.between(1, MAX_KIND), state.next_lsn + rng.below(3));
+            let mark = rng.pick(&[0, MARK_COMMITTED, MARK_COMMITTED, MARK_RELEASED]);
+            let header = Header { length: 0, kind, mark };
+            let check = record_check(0, kind, lsn, std::iter::empty());
+            let last = CheckWord { check, epoch: rng.pick(&[0, state.epoch]) };
+            let record = [header.word(), lsn, last.word()];
+            let edge = rng.pick(&[state.head_position, state.next_position]);
+            let position = match rng.below(3) {
+                0 => rng.below(state.capacity),
+                _ => edge + state.capacity - 3 + rng.below(6),
+            };
+            let word_at = |i: u64| FIRST_RING_WORD + (position + i) % state.capacity;
+            match rng.below(8) {
+                0 => (0..3).for_each(|i| ops.extend([1, word_at(i), record[i as usize]])),
+                1 => ops.extend([1, rng.below(words), rng.next_u64()]),
+                2..=4 => {
+                    let any = rng.next_u64();
+                    let value = rng.pick(&[0, any, record[0], record[1], record[2]]);
+                    ops.extend([1, word_at(0), value]);
+                }
+                5 => ops.extend([2, 0, words]),
+                _ => {
+                    let first = rng.below(words);
+                    ops.extend([2, first, rng.between(1, words - first)]);
+                }
+            }
+        }
+        ops
+    }
+
     /// Any bytes, or such as look like a committed record soon to come, mostly with the state's epoch.
     fn choose_copy(&mut self, lsn: u64, view: &StateView) -> Command {
         let rng = &mut self.rng;
         let length = view.length(lsn);
         if length >= NAMING_BYTES && rng.chance(1, 4) {
             // A live record, which a replacement then rests on.
-            let named = rng.between(view.head_lsn, lsn);
+            let named = rng.between(view.state.head_lsn, lsn);
             return Command::Copy { lsn, offset: 0, bytes: named.to_le_bytes().to_vec() };
         }
         if length >= 8 * HEADER_WORDS && rng.chance(1, 2) {
@@ -681,7 +798,13 @@ impl<'a> History<'a> {
             let kind = rng.between(1, MAX_KIND);
             let header = Header { length: 0, kind, mark: MARK_COMMITTED };
             let check = record_check(0, kind, later, std::iter::empty());
-            let epoch = rng.pick(&[0, view.epoch, view.epoch, view.epoch, view.epoch + 1]);
+            let epoch = rng.pick(&[
+                0,
+                view.state.epoch,
+                view.state.epoch,
+                view.state.epoch,
+                view.state.epoch + 1,
+            ]);
             let words = [header.word(), later, CheckWord { check, epoch }.word()];
             let offset = 8 * rng.below(length / 8 - HEADER_WORDS + 1);
             let bytes = words.into_iter().flat_map(u64::to_le_bytes).collect();
@@ -740,6 +863,35 @@ fn crash_images(rng: &mut Rng, values: &[Vec<u64>], effort: Effort) -> Vec<Vec<u
     (0..effort.samples).map(sample).collect()
 }
 
+/// An image reads like one that power could have left of this device: the same with the values that are not among the device's taken
+/// back.
+fn reads_like_before(before: &Device, image: &[u64]) -> Result<(), String> {
+    let values = before.crash_values();
+    let earlier = image.iter().zip(&values);
+    let earlier: Vec<u64> = earlier
+        .map(|(word, values)| if values.contains(word) { *word } else { values[0] })
+        .collect();
+    let (now, then) = (reading(image), reading(&earlier));
+    if now != then {
+        return Err(format!("reads {now:?}, and before the ops {then:?}"));
+    }
+    Ok(())
+}
+
+/// The records of an image with their bytes and the cursor behind them.
+type Reading = (Vec<(Record, Vec<u8>)>, Cursor);
+
+fn reading(image: &[u64]) -> Result<Reading, Refusal> {
+    let (records, end) = walk(image)?;
+    let with_bytes = |record: Record| {
+        let mut bytes = vec![0; record.length as usize];
+        fetch(image, record.position, record.length, &mut bytes)?;
+        Ok((record, bytes))
+    };
+    let records: Result<Vec<_>, Refusal> = records.into_iter().map(with_bytes).collect();
+    Ok((records?, end))
+}
+
 fn fetches(walked: &[WalkedRecord]) -> Vec<Command> {
     let fetch = |record: &WalkedRecord| {
         let &WalkedRecord { position, length, .. } = record;
@@ -790,19 +942,9 @@ fn describe(call: &Command, done: usize, all: usize, what: &str) -> String {
 
 // ---------------------------------------------------------------- what the state command says
 
-const OPEN: u64 = 1;
-const COMPLETE: u64 = 2;
-const COMMITTED: u64 = 3;
-
-/// Only helps to choose calls; nothing but the epoch is judged by it.
+/// Helps to choose calls and says which words are free; nothing but the epoch is judged by it.
 struct StateView {
-    capacity: u64,
-    head_lsn: u64,
-    next_lsn: u64,
-    committed_lsn: u64,
-    epoch: u64,
-    /// Length and stage by table index.
-    entries: [(u64, u64); TABLE_SIZE],
+    state: State,
 }
 
 impl StateView {
@@ -817,46 +959,45 @@ impl StateView {
         if numbers.len() < 8 {
             return None;
         }
-        let mut view = StateView {
+        let mut state = State {
             capacity: numbers[0],
+            head_position: numbers[1],
             head_lsn: numbers[2],
+            next_position: numbers[3],
             next_lsn: numbers[4],
             committed_lsn: numbers[5],
+            copy_in_use: numbers[6],
             epoch: numbers[7],
-            entries: [(0, 0); TABLE_SIZE],
+            ..State::default()
         };
         for entry in numbers[8..].chunks(6) {
-            let &[index, _position, length, _kind, stage, _epoch] = entry else {
+            let &[index, position, length, kind, stage, epoch] = entry else {
                 return None;
             };
-            *view.entries.get_mut(index as usize)? = (length, stage);
+            let entry = Entry { position, length, kind, stage: stage_numbered(stage), epoch };
+            *state.table.get_mut(index as usize)? = entry;
         }
-        let live = view.next_lsn.checked_sub(view.head_lsn)?;
-        (live <= TABLE_SIZE as u64).then_some(view)
-    }
-
-    fn entry(&self, lsn: u64) -> (u64, u64) {
-        self.entries[(lsn % TABLE_SIZE as u64) as usize]
+        let live = state.next_lsn.checked_sub(state.head_lsn)?;
+        (live <= TABLE_SIZE as u64).then_some(StateView { state })
     }
 
     fn length(&self, lsn: u64) -> u64 {
-        self.entry(lsn).0
+        self.state.entry(lsn).length
     }
 
-    fn in_stage(&self, stage: u64) -> Vec<u64> {
-        (self.head_lsn..self.next_lsn).filter(|&lsn| self.entry(lsn).1 == stage).collect()
+    fn in_stage(&self, stage: Stage) -> Vec<u64> {
+        self.state.live().filter(|&lsn| self.state.entry(lsn).stage == stage).collect()
     }
 
     /// Complete records with no open one before them.
     fn forceable(&self) -> Vec<u64> {
-        (self.committed_lsn.saturating_add(1)..self.next_lsn)
-            .take_while(|&lsn| self.entry(lsn).1 == COMPLETE)
+        (self.state.committed_lsn.saturating_add(1)..self.state.next_lsn)
+            .take_while(|&lsn| self.state.entry(lsn).stage == Stage::Complete)
             .collect()
     }
 
     fn free_words(&self) -> u64 {
-        let live = self.head_lsn..self.next_lsn;
-        let used: u64 = live.map(|lsn| record_size(self.length(lsn))).sum();
-        self.capacity.saturating_sub(used)
+        let used: u64 = self.state.live().map(|lsn| record_size(self.length(lsn))).sum();
+        self.state.capacity.saturating_sub(used)
     }
 }

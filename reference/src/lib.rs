@@ -21,6 +21,7 @@ pub mod query;
 pub mod refusal;
 pub mod state;
 pub mod three;
+pub mod vet;
 
 // The same written for speed, to measure against.
 pub mod plain;
@@ -56,3 +57,5 @@ pub mod stored_script;
 pub mod three_calls;
 pub mod time;
 pub mod triples;
+pub mod vet_calls;
+pub mod vet_cases;

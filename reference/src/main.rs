@@ -22,6 +22,7 @@ use reference::stored_script::stored_script;
 use reference::three_calls::three_calls;
 use reference::three_system::Variant;
 use reference::time::{list_times, load_times};
+use reference::vet_calls::vet_calls;
 use std::fs;
 use std::io::{self, BufWriter, Write};
 use std::path::{Path, PathBuf};
@@ -41,6 +42,7 @@ usage: reference example                 print the listing that the program exam
                                          compare two other programs with ours on N seeds
        reference c-calls DRIVER SEED N   compare the calls that a C program makes with ours, on N images
        reference three PROGRAM SEED N    compare the recovery of three modules that a C program makes with ours
+       reference vet PROGRAM SEED N      compare the check of other units' ops that a C program makes with ours
        reference logwhy                  say why the LSN behind the image on standard input is listed or not
        reference why LOGWHY SEED N       run another logwhy on images of N seeds, each with many LSNs
        reference logorphans              list the replacements in the image on standard input whose inspection is not listed before them
@@ -54,7 +56,7 @@ usage: reference example                 print the listing that the program exam
        reference time PROGRAM...         how long each takes to list a full image
        reference time-load PROGRAM...    how long each takes to load the listing of a full image
        reference same-work PROVED PLAIN  whether two bench programs leave the same
-       reference bench PROVED PLAIN C_BENCH [PMEM] [--calls C_CALLS] [--append C_APPEND] [--append-pmem C_APPEND] [--three C_THREE] [--rounds N]
+       reference bench PROVED PLAIN C_BENCH [PMEM] [--calls C_CALLS] [--append C_APPEND] [--append-pmem C_APPEND] [--three C_THREE] [--vet C_VET] [--rounds N]
                                          how long the calls take, case by case
        reference cover SEED N            count what N scripts reach
        reference crash SECONDS [--program PATH] [--seed S] [--shortcut K]
@@ -185,6 +187,26 @@ fn run(args: &[&str]) -> io::Result<ExitCode> {
                 ExitCode::FAILURE
             });
         }
+        ["vet", program, seed, count] => {
+            let report = vet_calls(Path::new(program), parse(seed)?, parse(count)?)?;
+            if let Some((case, found)) = &report.difference {
+                writeln!(stdout, "seed {}, case {case}: line {} differs", found.seed, found.line)?;
+                writeln!(stdout, "reference: {}\nprogram:   {}", found.ours, found.theirs)?;
+            }
+            writeln!(
+                stdout,
+                "vet: {} cases, {} calls, {} differences",
+                report.cases,
+                report.calls,
+                report.difference.iter().count()
+            )?;
+            stdout.flush()?;
+            return Ok(if report.difference.is_none() {
+                ExitCode::SUCCESS
+            } else {
+                ExitCode::FAILURE
+            });
+        }
         ["logwhy"] => stdout.write_all(logwhy(&read_input(io::stdin().lock())?).as_bytes())?,
         ["why", program, seed, count] => {
             let report = compare_logwhy(Path::new(program), parse(seed)?, parse(count)?)?;
@@ -283,7 +305,8 @@ fn run(args: &[&str]) -> io::Result<ExitCode> {
                 }
                 _ => (None, options),
             };
-            let (mut calls, mut append, mut append_pmem, mut three) = (None, None, None, None);
+            let (mut calls, mut append, mut append_pmem) = (None, None, None);
+            let (mut three, mut vet) = (None, None);
             let mut rounds = 31;
             for option in options.chunks(2) {
                 match *option {
@@ -291,6 +314,7 @@ fn run(args: &[&str]) -> io::Result<ExitCode> {
                     ["--append", path] => append = Some(Path::new(path)),
                     ["--append-pmem", path] => append_pmem = Some(Path::new(path)),
                     ["--three", path] => three = Some(Path::new(path)),
+                    ["--vet", path] => vet = Some(Path::new(path)),
                     ["--rounds", number] => rounds = parse(number)?,
                     _ => return Err(invalid(format!("not an option: {}", option.join(" ")))),
                 }
@@ -300,7 +324,7 @@ fn run(args: &[&str]) -> io::Result<ExitCode> {
             }
             let (proved, plain, crc) = (Path::new(proved), Path::new(plain), Path::new(crc));
             let programs =
-                Programs { proved, plain, crc, pmemlog, calls, append, append_pmem, three };
+                Programs { proved, plain, crc, pmemlog, calls, append, append_pmem, three, vet };
             let done = bench(&programs, rounds, &mut stdout);
             return no_difference(done, &mut stdout);
         }

@@ -1,4 +1,4 @@
-//! The table "When a call declines", refusals 16 to 20 of document 02, and the tests that slips 4 and 8 have refusal 12 name.
+//! The table "When a call declines", refusals 16 to 21 of document 02, and the tests that slips 4 and 8 have refusal 12 name.
 
 /// Why a call declined. Its number and detail are those of the documents.
 #[derive(Clone, Copy, Debug, PartialEq, Eq)]
@@ -48,6 +48,10 @@ pub enum Refusal {
     Held {
         lsn: u64,
     },
+    /// The op of this number, counted from 0, is not of the kind that passes.
+    BadOp {
+        number: u64,
+    },
 }
 
 impl Refusal {
@@ -73,6 +77,7 @@ impl Refusal {
             Refusal::NotNext => 18,
             Refusal::TooFewCopies => 19,
             Refusal::Held { .. } => 20,
+            Refusal::BadOp { .. } => 21,
         }
     }
 
@@ -83,6 +88,7 @@ impl Refusal {
             | Refusal::TooMany { lsn }
             | Refusal::Held { lsn } => lsn,
             Refusal::OpBufferShort { needed } => needed,
+            Refusal::BadOp { number } => number,
             _ => 0,
         }
     }

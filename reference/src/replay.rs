@@ -252,7 +252,7 @@ pub fn entry_numbers(entry: &Entry) -> [u64; 5] {
     [entry.position, entry.length, entry.kind, stage, entry.epoch]
 }
 
-fn stage_numbered(number: u64) -> Stage {
+pub fn stage_numbered(number: u64) -> Stage {
     match number {
         1 => Stage::Open,
         2 => Stage::Complete,

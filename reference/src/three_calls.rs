@@ -16,7 +16,7 @@ use std::io;
 use std::path::Path;
 
 /// Words of a state and of a reply, as C has them.
-const STATE_WORDS: usize = 520;
+pub const STATE_WORDS: usize = 520;
 const REPLY_WORDS: usize = 5;
 
 /// What a run came to.
@@ -194,7 +194,7 @@ fn digest(words: &[u64]) -> u64 {
 }
 
 /// A state as C has it.
-fn state_words(state: &State) -> Vec<u64> {
+pub fn state_words(state: &State) -> Vec<u64> {
     let State { capacity, head_position, head_lsn, next_position, next_lsn, .. } = *state;
     let State { committed_lsn, copy_in_use, epoch, .. } = *state;
     let mut words = vec![capacity, head_position, head_lsn, next_position, next_lsn];

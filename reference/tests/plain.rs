@@ -14,6 +14,8 @@ use reference::state::{Entry, Stage, State};
 use reference::three::{recover_three, Lent, MODULES};
 use reference::three_calls::{ask, Request};
 use reference::triples::{self, triple, Images};
+use reference::vet::vet;
+use reference::vet_cases::{self, case, op_buffers};
 use reference::{gen, query, replay};
 use std::collections::BTreeSet;
 use std::fmt::Debug;
@@ -465,4 +467,27 @@ fn three_modules() {
         }
     }
     assert_eq!(met, BTreeSet::from([Ok(0), Ok(1), Ok(2), Err(1), Err(8), Err(15), Err(19)]));
+}
+
+/// The check of another unit's ops, on the op buffers of the comparison through C.
+#[test]
+fn vets_alike() {
+    let (mut passed, mut refused) = (0, 0);
+    for seed in 0..3 * vet_cases::SORTS.len() as u64 {
+        let (name, case) = case(seed);
+        let mut unsound = case.state.clone();
+        unsound.committed_lsn = unsound.next_lsn;
+        for op_buffer in op_buffers(&mut Rng::new(seed), &case) {
+            let image = &case.image[..];
+            for (state, image) in
+                [(&case.state, image), (&unsound, image), (&case.state, &image[1..])]
+            {
+                let clear = vet(state, image, &op_buffer);
+                assert_eq!(plain::vet(&plain_state(state), image, &op_buffer), clear, "{name}");
+                passed += u64::from(clear.is_ok());
+                refused += u64::from(matches!(clear, Err(Refusal::BadOp { .. })));
+            }
+        }
+    }
+    assert!(passed > 300 && refused > 1_000, "{passed} {refused}");
 }

@@ -11,14 +11,14 @@ static bool texts()
 {
     const std::string none = drivelog_refusal_text(0);
     std::set<std::string> seen;
-    for (int64_t number = 1; number <= 20; number++) {
+    for (int64_t number = 1; number <= 21; number++) {
         if (number == 17 || number == 18) // refusals of the program logload, which no call gives
             continue;
         const std::string text = drivelog_refusal_text(number);
         if (text == none || text != drivelog_refusal_text(-number) || !seen.insert(text).second)
             return false;
     }
-    return none == drivelog_refusal_text(17) && none == drivelog_refusal_text(21) && none == drivelog_refusal_text(INT64_MIN) && none == drivelog_refusal_text(INT64_MAX);
+    return none == drivelog_refusal_text(17) && none == drivelog_refusal_text(24) && none == drivelog_refusal_text(INT64_MIN) && none == drivelog_refusal_text(INT64_MAX);
 }
 
 static bool version()
@@ -37,5 +37,6 @@ int main()
     uint64_t reply[DRIVELOG_THREE_REPLY_WORDS];
     all = all && drivelog_recover_three(0, 0, 0, 0, 0, 0, 0, 0, 7, 0, 0, 0, 0, 0, 0, reply, DRIVELOG_THREE_REPLY_WORDS) == refused
         && drivelog_recover_three(0, 0, 0, 0, 0, 0, 0, 0, 7, 0, 0, 0, 0, 0, 0, reply, 4) == -DRIVELOG_OUTPUT_SHORT;
+    all = all && drivelog_vet(0, 0, 0, 0, 0, 0, reply, DRIVELOG_REPLY_WORDS) == refused && drivelog_vet(0, 0, 0, 0, 0, 0, 0, 0) == -DRIVELOG_OUTPUT_SHORT;
     return all && texts() && version() ? 0 : 1;
 }

@@ -3,7 +3,7 @@
  * that file, the others over a log of their own.
  *
  * Standard output: a line a call, its name and the bytes. Status 1 if one that reads bytes needs more than MOST, one of reserve, copy,
- * complete and release more than MOST_ON_A_RECORD, the recovery of three more than MOST_ON_THREE, or another one that works on words
+ * complete, release and vet more than MOST_ON_A_RECORD, the recovery of three more than MOST_ON_THREE, or another one that works on words
  * more than MOST_ON_WORDS, 2 if it could not be tried. */
 
 #define _DEFAULT_SOURCE
@@ -51,6 +51,10 @@ static int64_t fetch(void) { return drivelog_fetch(LOG, 0, sizeof output, output
 static int64_t release(void) { return drivelog_release(LENT, 1, REPLY); }
 static int64_t release_all(void) { return drivelog_release_all(LENT, REPLY); }
 
+/* Ops of somebody else: one store, and a flush of all. */
+static const uint64_t notes[] = {1, DRIVELOG_MAX_IMAGE / 8 - 1, 5, 2, 0, DRIVELOG_MAX_IMAGE / 8};
+static int64_t vet(void) { return drivelog_vet(state, DRIVELOG_STATE_WORDS, LOG, notes, sizeof notes / sizeof notes[0], REPLY); }
+
 /* The log on three modules of 8,192 words, of which the second and the third differ from the first. */
 static uint64_t others[2][DRIVELOG_MAX_IMAGE / 8], three_ops[3][DRIVELOG_THREE_OPS_WORDS], three_reply[DRIVELOG_THREE_REPLY_WORDS];
 static int64_t recover_three(void)
@@ -92,10 +96,10 @@ static size_t used_by(struct call *call)
     return STACK - painted;
 }
 
-/* Whether it is one of the four calls that work on one record. */
+/* Whether it is one of the four calls that work on one record, or vet, which takes no more. */
 static int on_a_record(const struct call *call)
 {
-    return call->make == reserve || call->make == copy || call->make == complete || call->make == release;
+    return call->make == reserve || call->make == copy || call->make == complete || call->make == release || call->make == vet;
 }
 
 /* The calls in turn, each held to `most`, or to `most_on_a_record`: the status that they leave. */
@@ -121,7 +125,7 @@ int main(int argc, char **argv)
                               {"payload", payload, 0}, {"list", list, 0}, {"payload_at", payload_at, 0}};
     struct call on_words[] = {{"format", format, 0}, {"reserve", reserve, 0}, {"copy", copy, 0}, {"complete", complete, 0},
                               {"force", force, 0}, {"recover", recover, 0}, {"open", open, 0}, {"next", next, 0}, {"fetch", fetch, 0},
-                              {"release", release, 0}, {"release_all", release_all, 0}};
+                              {"vet", vet, 0}, {"release", release, 0}, {"release_all", release_all, 0}};
     struct call on_three[] = {{"recover_three", recover_three, 0}};
     FILE *file = argc == 6 ? fopen(argv[5], "rb") : NULL;
     if (file == NULL) {

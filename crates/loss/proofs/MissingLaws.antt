@@ -22,7 +22,7 @@ use Rattle.journal.specs.RunLog.{RunLog}
 use Rattle.journal.proofs.Calm.{Frame, calm}
 use Rattle.journal.proofs.Invariant.{Inv, inv-recovers}
 use Rattle.journal.proofs.NextRecovery.{series-listed, point-ok, the-scan, scan-all}
-use Rattle.journal.proofs.RunTheorem.{series-noted}
+use Rattle.journal.proofs.ScanImages.{series-has}
 use Rattle.journal.proofs.Zones.{Allowed}
 use Rattle.loss.specs.LossBound.{lists, isMissing, missing, LosesAtMost}
 
@@ -133,7 +133,7 @@ module _ (s : System) {ran : RunLog} (i : Inv s ran) where
       let w = the-scan (s .log) (s .image) (calm fr) (i .quiet .zoned) (i .quiet .size) ob in
       let e = scan-all (s .log) (s .image) (calm fr) (i .quiet .zoned) (i .quiet .size) ob in
       lists-no k rs
-      (λ r m q. let a = series-noted r (w .series) (listed-found r (w .items) (rw e at m) .0) .high in omega arith)
+      (λ r m q. let a = series-has r (w .series) (listed-found r (w .items) (rw e at m) .0) .high in omega arith)
 
   lists-durable : (k : ℕ) (e : Promise) → s .log k ≡ some e → e .durable ≡ true → e .begun ≡ false → lists k rs ≡ true
   lists-durable k e is d nb =

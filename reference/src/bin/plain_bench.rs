@@ -3,7 +3,7 @@
 //!
 //! Jobs: 1 append, 2 CRC-32, 3 recover, 4 list. Jobs 5 to 7 read an image of so many words behind the five numbers and get, in one pass,
 //! what tests/bench/calls.c gets call by call: 5 the number of listed records, 6 the last of them, 7 all of them. Jobs 9 to 11 recover it as
-//! tests/bench/three.c does: 9 alone, 10 with two copies of it, 11 with one of the copies to repair. Job 1000 + k is the release of the head with k released records behind it, 2000 + k one that is refused behind the soundness test.
+//! tests/bench/three.c does: 9 alone, 10 with two copies of it, 11 with one of the copies to repair. Job 12 vets 1,000 ops as tests/bench/vet.c does. Job 1000 + k is the release of the head with k released records behind it, 2000 + k one that is refused behind the soundness test.
 
 use reference::calls::Done;
 use reference::layout::{words_of_bytes, TABLE_SIZE};
@@ -203,6 +203,25 @@ fn run(job: u64, bytes: u64, live: u64, count: u64, words: usize) -> Option<(i64
                 }
             });
             Some((time, plain::crc32_of_bytes(&text)))
+        }
+        12 => {
+            let Log { image, state, .. } = Log::with_live(words, payload, live);
+            // Behind the records' words and the terminator.
+            let first = state.next_position + 25;
+            let free = words as u64 - first;
+            let ops: Vec<u64> = (0..1_000_u64)
+                .flat_map(|i| match i % 4 {
+                    3 => [2, i, 1 + i % 7],
+                    _ => [1, first + 37 * i % free, i],
+                })
+                .collect();
+            let mut passed = 0;
+            let time = time(|| {
+                for _ in 0..count {
+                    passed += black_box(plain::vet(black_box(&state), &image, &ops)).unwrap_or(0);
+                }
+            });
+            (passed == 1_000 * count).then_some((time, passed))
         }
         1000..3000 => {
             let mut log = Log::with_live(words, payload, live);

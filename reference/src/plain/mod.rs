@@ -13,6 +13,7 @@ mod query;
 mod scan;
 mod state;
 mod three;
+mod vet;
 
 pub use calls::{complete, copy, force, format, recover, release, reserve};
 pub use crc::{crc32_of_bytes, crc32_of_words};
@@ -21,6 +22,7 @@ pub use load::load;
 pub use query::{listed, Listed};
 pub use state::{Entry, Stage, State};
 pub use three::{recover_three, RecoveredThree};
+pub use vet::vet;
 
 /// `count` items of a ring from `start` on: those up to its end, and those that go round.
 fn run<T>(ring: &[T], start: usize, count: usize) -> (&[T], &[T]) {
