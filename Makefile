@@ -8,7 +8,7 @@ reference = reference/target/release/reference
 archive = target/lib/libdrivelog.a
 tool = target/bin/drivelog
 # The crates whose functions are the calls for C: those that read an image's bytes, and those of the log with its state in lent words.
-c_crates = c_query c_read c_write c_three c_vet
+c_crates = c_query c_read c_write c_three c_vet c_crash
 # What the archive is made of: the files of these crates and of all that they stand on.
 c_sources := $(shell tools/sources $(c_crates))
 cli_c = $(wildcard cli/*.c driver/*.c)
@@ -24,7 +24,7 @@ driver_shared = target/install/libdrivelog-driver.so.$(version)
 driver_archive = target/install/libdrivelog-driver.a
 
 .PHONY: help demo list load lib tool prove test programs reference shared install uninstall clean
-.PHONY: compare compare-calls compare-c compare-why compare-orphans compare-load crash crash-three loss kill bench bench-c
+.PHONY: compare compare-calls compare-c compare-why compare-orphans compare-load crash crash-three loss cells kill bench bench-c
 .PHONY: bench-export speed
 
 help:
@@ -45,6 +45,7 @@ help:
 	@echo "make crash         the crash bench: power failures in random histories, SECONDS=60 SEED=1"
 	@echo "make crash-three   the same for three modules: absent ones, missed ops, power failures, SECONDS=60 SEED=1"
 	@echo "make loss          how many completed records a power failure loses, for F of 1 to 16, SECONDS=60 SEED=1"
+	@echo "make cells         what one changed word, of any value, does to the list that loglist prints, SECONDS=60 SEED=1"
 	@echo "make kill          processes killed and modules whose power fails, on one module and on three, SECONDS=60 SEED=1"
 	@echo "make bench         how long the calls take beside plain Rust, zlib and libpmemlog, ROUNDS=31"
 	@echo "make bench-export  how long drivelog export takes for 1,000 files, beside plain Rust, ROUNDS=31"
@@ -148,6 +149,7 @@ compare-why: reference
 	$(reference) why target/bin/logwhy $(SEED) $(SCRIPTS)
 
 compare-orphans: reference
+	@tools/need compare-orphans rt
 	tools/rt check logorphans
 	$(reference) orphans target/bin/logorphans $(SEED) $(SCRIPTS)
 
@@ -164,6 +166,10 @@ crash-three: reference
 
 loss: reference
 	$(reference) loss $(SECONDS) --seed $(SEED)
+
+cells: reference
+	tools/rt check loglist
+	$(reference) cells target/bin/loglist $(SECONDS) --seed $(SEED)
 
 kill: lib
 	tests/kill/run $(SECONDS) $(SEED)

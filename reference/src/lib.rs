@@ -16,6 +16,7 @@
 // The log of document 01, and the calls that document 02 adds.
 pub mod calls;
 pub mod layout;
+pub mod numbered_crashes;
 pub mod ops;
 pub mod query;
 pub mod refusal;
@@ -35,6 +36,7 @@ pub mod three_system;
 // Programs.
 pub mod bench;
 pub mod c_calls;
+pub mod cells;
 pub mod compare;
 pub mod cover;
 pub mod crash;
@@ -48,6 +50,7 @@ pub mod logload;
 pub mod logorphans;
 pub mod logwhy;
 pub mod loss;
+pub mod numbered_calls;
 pub mod replay;
 pub mod rng;
 pub mod samples;
