@@ -14,7 +14,7 @@
 #include <stdlib.h>
 #include <string.h>
 
-enum { WORDS = 40, LSNS = 8, OP = 8 * DRIVELOG_OP_WORDS }; /* the smallest image; LSNs are 1 to 7 here; bytes of an op */
+enum { WORDS = 40, LSNS = 8, OP = 8 * DRIVELOG_OP_WORDS }; /* the smallest image; LSNs are below 8 here; the bytes of an op */
 
 /* What was promised of each LSN. A record whose release has begun may be listed or not. */
 static struct { enum { NONE, COMPLETED, DURABLE, RELEASED } stage; uint64_t kind; const char *text; } promised[LSNS];
@@ -78,19 +78,17 @@ static void spoil(uint64_t (*ops)[DRIVELOG_OP_WORDS])
     }
 }
 
-/* Carries the call's ops out on the module. */
-static void carry_out(void)
+/* Carries the ops out on the module: a store is pending until a flush covers its word. */
+static void carry_out(uint64_t ops)
 {
-    for (uint64_t i = pending, end = pending + (uint64_t)count; i < end; i++) {
-        uint64_t word = since[i][1], words = since[i][2], stores = pending;
-        if (since[i][0] == DRIVELOG_OP_STORE)
+    pending = 0;
+    for (uint64_t i = 0, j; i < ops; i++) {
+        for (j = i; j < ops && (since[j][0] == DRIVELOG_OP_STORE || since[i][1] - since[j][1] >= since[j][2]); j++)
+            ;
+        if (j == ops)
             memmove(since[pending++], since[i], OP);
-        else
-            for (uint64_t j = pending = 0; j < stores; j++)
-                if (since[j][1] - word < words)
-                    flushed[since[j][1]] = since[j][2];
-                else
-                    memmove(since[pending++], since[j], OP);
+        else if (since[i][0] == DRIVELOG_OP_STORE)
+            flushed[since[i][1]] = since[i][2];
     }
 }
 
@@ -119,7 +117,7 @@ static int64_t crashed(const char *name, uint64_t lsn, int64_t answer)
     }
     printf("%-12s %4d %8d %6d\n", call, (int)count, (int)crash, lists);
     total += crash;
-    carry_out();
+    carry_out(ops);
     return answer;
 }
 
