@@ -57,7 +57,9 @@ enum drivelog_refusal {
     DRIVELOG_OUTPUT_SHORT = 14,   /* the output, the rows, the reply, the cursor or the record have too little room */
     DRIVELOG_OPS_SHORT = 15,      /* the op buffer is too short; detail: the words needed */
     DRIVELOG_TOO_FEW_COPIES = 19, /* of three modules fewer than two can be read */
-    DRIVELOG_BAD_OP = 21          /* an op of somebody else does not pass; detail: its number, counted from 0, the lowest such one's */
+    DRIVELOG_BAD_OP = 21,         /* an op is not one that the call takes; detail: its number, counted from 0, the lowest such one's */
+    DRIVELOG_TOO_MANY_CRASHES = 22, /* more than DRIVELOG_MAX_CRASHES crashes */
+    DRIVELOG_NO_SUCH_CRASH = 23   /* number is not below that of the crashes */
 };
 
 static inline const char *drivelog_refusal_text(int64_t number)
@@ -91,7 +93,9 @@ static inline const char *drivelog_refusal_text(int64_t number)
     case DRIVELOG_NO_SUCH_RECORD: return "no such record";
     case DRIVELOG_TOO_FEW_COPIES: return "fewer than two copies can be read";
     case DRIVELOG_HELD: return "a later record rests on this one";
-    case DRIVELOG_BAD_OP: return "an op does not pass";
+    case DRIVELOG_BAD_OP: return "an op is not one that the call takes";
+    case DRIVELOG_TOO_MANY_CRASHES: return "more than 4096 crashes";
+    case DRIVELOG_NO_SUCH_CRASH: return "no crash has this number";
     default: return "no refusal of this version";
     }
 }
@@ -516,6 +520,44 @@ int64_t drivelog_vet(const uint64_t *state, size_t state_words, const uint64_t *
          if (passed > 0)
              carry_out(notes, (uint64_t)passed);
 */
+
+int64_t drivelog_crash_count(const uint64_t *image, size_t image_words, const uint64_t *ops, size_t ops_words, uint64_t *reply,
+                             size_t reply_words);
+/*
+     How many crashes there are while the ops of a buffer are carried out on a module that holds the image, all of it flushed: for a
+   test that runs every one of them. A crash is a point, from no op done to all done, and at that point a choice of values: of each
+   word its flushed value or one stored since. Words that hold the same value are one choice. `ops_words` is 3 for each op, and any
+   op buffer will do whose stores are to words of the image and whose flushes are of one or more words inside it.
+
+     Returns the number, 1 to DRIVELOG_MAX_CRASHES, or -DRIVELOG_IMAGE_SIZE, -DRIVELOG_BAD_OP (also a last group of fewer than 3 words;
+   the detail is the number of the lowest such op) or -DRIVELOG_TOO_MANY_CRASHES.
+
+     It takes a pass over the ops, and of each op that stores one over those before it.
+
+     Example:
+
+         int64_t crashes = drivelog_crash_count(image, 2048, ops, 3 * reply[DRIVELOG_REPLY_OPS], told, DRIVELOG_REPLY_WORDS);
+*/
+
+int64_t drivelog_crash_image(const uint64_t *image, size_t image_words, const uint64_t *ops, size_t ops_words, uint64_t number,
+                             uint64_t *output, size_t output_words, uint64_t *reply, size_t reply_words);
+/*
+     The image that crash `number` leaves, put into the output. Crashes are numbered from 0, by their points and at one point by their
+   choices: of each word the flushed value and then those stored since, the oldest first, and the lowest word changes fastest. At one
+   point each image that a power failure may leave has one number, and no other image has one.
+
+     Returns the crash point: how many ops are done. Or -DRIVELOG_IMAGE_SIZE (output_words is not image_words too), -DRIVELOG_BAD_OP,
+   -DRIVELOG_TOO_MANY_CRASHES or -DRIVELOG_NO_SUCH_CRASH; then the output stays as it was.
+
+     It takes twice the time of drivelog_crash_count, a copy of the image, and of each op before the point that stores a pass over the
+   ops before the point. Neither call needs more than 4,096 bytes of stack.
+
+     Example, every crash of a call in turn:
+
+         for (uint64_t i = 0; i < (uint64_t)crashes; i++)
+             drivelog_crash_image(image, 2048, ops, 3 * count, i, left, 2048, told, DRIVELOG_REPLY_WORDS);
+*/
+enum drivelog_crashes { DRIVELOG_MAX_CRASHES = 4096 };
 
 int64_t drivelog_open(const uint64_t *image, size_t image_words, uint64_t *cursor, size_t cursor_words, uint64_t *reply,
                       size_t reply_words);

@@ -16,6 +16,7 @@
 // The log of document 01, and the calls that document 02 adds.
 pub mod calls;
 pub mod layout;
+pub mod numbered_crashes;
 pub mod ops;
 pub mod query;
 pub mod refusal;
@@ -48,6 +49,7 @@ pub mod logload;
 pub mod logorphans;
 pub mod logwhy;
 pub mod loss;
+pub mod numbered_calls;
 pub mod replay;
 pub mod rng;
 pub mod samples;

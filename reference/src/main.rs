@@ -15,6 +15,7 @@ use reference::logload::{output, read_text};
 use reference::logorphans::{compare_logorphans, logorphans, orphan_image};
 use reference::logwhy::{compare_logwhy, logwhy, read_input};
 use reference::loss::{self, measure_loss, Measured};
+use reference::numbered_calls::numbered_calls;
 use reference::replay::replay;
 use reference::samples::full_image;
 use reference::shortcut::Shortcut;
@@ -43,6 +44,7 @@ usage: reference example                 print the listing that the program exam
        reference c-calls DRIVER SEED N   compare the calls that a C program makes with ours, on N images
        reference three PROGRAM SEED N    compare the recovery of three modules that a C program makes with ours
        reference vet PROGRAM SEED N      compare the check of other units' ops that a C program makes with ours
+       reference crashes PROGRAM SEED N  compare the numbered crashes that a C program finds with ours
        reference logwhy                  say why the LSN behind the image on standard input is listed or not
        reference why LOGWHY SEED N       run another logwhy on images of N seeds, each with many LSNs
        reference logorphans              list the replacements in the image on standard input whose inspection is not listed before them
@@ -153,6 +155,26 @@ fn run(args: &[&str]) -> io::Result<ExitCode> {
                 stdout,
                 "c-calls: {} images, {} calls, {} differences",
                 report.images,
+                report.calls,
+                report.difference.iter().count()
+            )?;
+            stdout.flush()?;
+            return Ok(if report.difference.is_none() {
+                ExitCode::SUCCESS
+            } else {
+                ExitCode::FAILURE
+            });
+        }
+        ["crashes", program, seed, count] => {
+            let report = numbered_calls(Path::new(program), parse(seed)?, parse(count)?)?;
+            if let Some((sort, found)) = &report.difference {
+                writeln!(stdout, "seed {}, {sort}: line {} differs", found.seed, found.line)?;
+                writeln!(stdout, "reference: {}\nprogram:   {}", found.ours, found.theirs)?;
+            }
+            writeln!(
+                stdout,
+                "crashes: {} op buffers, {} calls, {} differences",
+                report.buffers,
                 report.calls,
                 report.difference.iter().count()
             )?;

@@ -1,4 +1,4 @@
-//! The table "When a call declines", refusals 16 to 21 of document 02, and the tests that slips 4 and 8 have refusal 12 name.
+//! The table "When a call declines", refusals 16 to 23 of document 02, and the tests that slips 4 and 8 have refusal 12 name.
 
 /// Why a call declined. Its number and detail are those of the documents.
 #[derive(Clone, Copy, Debug, PartialEq, Eq)]
@@ -48,10 +48,14 @@ pub enum Refusal {
     Held {
         lsn: u64,
     },
-    /// The op of this number, counted from 0, is not of the kind that passes.
+    /// The op of this number, counted from 0, is not one that the call takes.
     BadOp {
         number: u64,
     },
+    /// More than 4,096 crashes.
+    TooManyCrashes,
+    /// The number is not below that of the crashes.
+    NoCrash,
 }
 
 impl Refusal {
@@ -78,6 +82,8 @@ impl Refusal {
             Refusal::TooFewCopies => 19,
             Refusal::Held { .. } => 20,
             Refusal::BadOp { .. } => 21,
+            Refusal::TooManyCrashes => 22,
+            Refusal::NoCrash => 23,
         }
     }
 

@@ -11,7 +11,7 @@ static bool texts()
 {
     const std::string none = drivelog_refusal_text(0);
     std::set<std::string> seen;
-    for (int64_t number = 1; number <= 21; number++) {
+    for (int64_t number = 1; number <= 23; number++) {
         if (number == 17 || number == 18) // refusals of the program logload, which no call gives
             continue;
         const std::string text = drivelog_refusal_text(number);

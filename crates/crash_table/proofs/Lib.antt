@@ -1,0 +1,2 @@
+-- Turns of the loops over a table.
+pub mod TableTurns
