@@ -15,7 +15,7 @@ cli_c = $(wildcard cli/*.c) driver/driver.c
 cli_h = $(wildcard cli/*.h driver/*.h include/*.h)
 
 .PHONY: help demo list load lib tool prove test programs reference
-.PHONY: compare compare-calls compare-c compare-why compare-orphans compare-load crash crash-three loss kill bench bench-c speed
+.PHONY: compare compare-calls compare-c compare-why compare-orphans compare-load crash crash-three loss cells kill bench bench-c speed
 
 help:
 	@echo "make demo          a log in a file, whose writer is killed in the middle, recovered and listed"
@@ -34,6 +34,7 @@ help:
 	@echo "make crash         the crash bench: power failures in random histories, SECONDS=60 SEED=1"
 	@echo "make crash-three   the same for three modules: absent ones, missed ops, power failures, SECONDS=60 SEED=1"
 	@echo "make loss          how many completed records a power failure loses, for F of 1 to 16, SECONDS=60 SEED=1"
+	@echo "make cells         what one changed word, of any value, does to the list that loglist prints, SECONDS=60 SEED=1"
 	@echo "make kill          processes killed and modules whose power fails, SECONDS=60 SEED=1"
 	@echo "make bench         how long the calls take beside plain Rust, zlib and libpmemlog, ROUNDS=31"
 	@echo "make speed         how long loglist takes for a full image, beside one in plain Rust"
@@ -103,6 +104,10 @@ crash-three: reference
 
 loss: reference
 	$(reference) loss $(SECONDS) --seed $(SEED)
+
+cells: reference
+	tools/rt check loglist
+	$(reference) cells target/bin/loglist $(SECONDS) --seed $(SEED)
 
 kill: lib
 	tests/kill/run $(SECONDS) $(SEED)

@@ -36,6 +36,7 @@ pub mod three_system;
 // Programs.
 pub mod bench;
 pub mod c_calls;
+pub mod cells;
 pub mod compare;
 pub mod cover;
 pub mod crash;

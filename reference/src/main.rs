@@ -2,6 +2,7 @@
 
 use reference::bench::{bench, same_work, Failure, Programs};
 use reference::c_calls::c_calls;
+use reference::cells::{self, cells, lister};
 use reference::compare::{compare, compare_samples};
 use reference::cover::Coverage;
 use reference::crash::{crash_bench, Program};
@@ -69,6 +70,9 @@ usage: reference example                 print the listing that the program exam
        reference loss SECONDS [--seed S] [--variant V]
                                          how many completed records a power failure loses, for F of 1 to 16
        reference loss-variants           the same with each rule of the slip broken on purpose: each has to be caught
+       reference cells LOGLIST SECONDS [--seed S] [--variant V]
+                                         what one changed word does to the list of another loglist
+       reference cells-variants LOGLIST  the same with claims that are too strong: each has to be caught
 ";
 
 fn main() -> ExitCode {
@@ -364,6 +368,10 @@ fn run(args: &[&str]) -> io::Result<ExitCode> {
         ["crash-three-variants"] => return each_variant(&mut stdout),
         ["loss", seconds, options @ ..] => return loss(seconds, options),
         ["loss-variants"] => return each_loss_variant(&mut stdout),
+        ["cells", loglist, seconds, options @ ..] => {
+            return one_bad_cell(Path::new(loglist), seconds, options)
+        }
+        ["cells-variants", loglist] => return each_cell_variant(Path::new(loglist), &mut stdout),
         _ => {
             eprint!("{USAGE}");
             return Ok(ExitCode::from(2));
@@ -521,6 +529,59 @@ fn each_loss_variant(out: &mut impl Write) -> io::Result<ExitCode> {
     }
     let all = loss::Variant::ALL.len();
     writeln!(out, "loss-variants: {caught} of {all} caught")?;
+    out.flush()?;
+    Ok(if caught == all { ExitCode::SUCCESS } else { ExitCode::FAILURE })
+}
+
+fn one_bad_cell(loglist: &Path, seconds: &str, options: &[&str]) -> io::Result<ExitCode> {
+    let (mut seed, mut variant) = (1, None);
+    for option in options.chunks(2) {
+        match *option {
+            ["--seed", number] => seed = parse(number)?,
+            ["--variant", name] => {
+                let names = || cells::Variant::ALL.map(|(name, _)| name).join(", ");
+                let named = cells::Variant::named(name);
+                variant =
+                    Some(named.ok_or_else(|| invalid(format!("the variants are {}", names())))?);
+            }
+            _ => return Err(invalid(format!("not an option: {}", option.join(" ")))),
+        }
+    }
+    let time = Duration::from_secs(parse(seconds)?);
+    let report = cells(&mut lister(loglist), variant, seed.., time)?;
+    if let Some(failure) = &report.failure {
+        let path = std::env::temp_dir().join(format!("cells-{}.hex", failure.seed));
+        fs::write(&path, &failure.image)?;
+        println!("seed {}: {}", failure.seed, failure.what);
+        println!("its words are in {}", path.display());
+    }
+    print!("changes:\n{}due:\n{}", report.changes.text(), report.due.text());
+    println!(
+        "cells: {} images, {} changes, {} of them through the program, {} failures",
+        report.images,
+        report.changes.total(),
+        report.through_program,
+        report.failure.iter().count(),
+    );
+    Ok(if report.failure.is_none() { ExitCode::SUCCESS } else { ExitCode::FAILURE })
+}
+
+/// Each variant has to be caught within a minute.
+fn each_cell_variant(loglist: &Path, out: &mut impl Write) -> io::Result<ExitCode> {
+    let mut caught = 0;
+    for (name, variant) in cells::Variant::ALL {
+        let start = Instant::now();
+        let time = Duration::from_secs(60);
+        let report = cells(&mut lister(loglist), Some(variant), 1.., time)?;
+        let seconds = start.elapsed().as_secs_f64();
+        let what = report.failure.as_ref().map_or("not caught", |failure| &failure.what);
+        let changes = report.changes.total();
+        writeln!(out, "{name}: {seconds:.2} s, {changes} changes: {what}")?;
+        out.flush()?;
+        caught += usize::from(report.failure.is_some());
+    }
+    let all = cells::Variant::ALL.len();
+    writeln!(out, "cells-variants: {caught} of {all} caught")?;
     out.flush()?;
     Ok(if caught == all { ExitCode::SUCCESS } else { ExitCode::FAILURE })
 }

@@ -1,0 +1,2 @@
+-- The theorems of specs/CellText.antt.
+pub mod TextTheorem

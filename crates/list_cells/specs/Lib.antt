@@ -1,0 +1,2 @@
+-- Definitions: what the theorems state.
+pub mod CellText
