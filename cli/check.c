@@ -49,10 +49,10 @@ static void say_after_end(void)
 
 static uint64_t count_orphans(void)
 {
-    uint64_t orphans = 0;
+    uint64_t count = 0;
     for (uint64_t i = 0; i < reading.count; i++)
-        orphans += missing_inspection(&reading, i) != 0;
-    return orphans;
+        count += missing_inspection(&reading, i) != 0;
+    return count;
 }
 
 static void say_records(void)
@@ -78,7 +78,7 @@ static int modules_apart(void)
 }
 
 /* The line of a file. */
-static int say_verdict(uint64_t orphans)
+static int say_verdict(uint64_t orphan_count)
 {
     put_name(path);
     if (status_of(&reading) != DONE) {
@@ -94,7 +94,7 @@ static int say_verdict(uint64_t orphans)
         puts("");
         return status_of(&reading);
     }
-    int apart = modules_apart(), well = reading.after == 0 && orphans == 0 && apart == 0;
+    int apart = modules_apart(), well = reading.after == 0 && orphan_count == 0 && apart == 0;
     fputs(well ? ": well: " : ": NOT WELL: ", stdout);
     if (apart > 0)
         printf("%d of %d modules %s absent or differ%s from the chosen one; ", apart, HANDLE_MODULES, apart == 1 ? "is" : "are", apart == 1 ? "s" : "");
@@ -102,8 +102,8 @@ static int say_verdict(uint64_t orphans)
         say_after_end();
         fputs("; ", stdout);
     }
-    if (orphans > 0)
-        printf("%" PRIu64 " orphan%s, which name%s an inspection that is not listed; ", orphans, plural(orphans), orphans == 1 ? "s" : "");
+    if (orphan_count > 0)
+        printf("%" PRIu64 " orphan%s, which name%s an inspection that is not listed; ", orphan_count, plural(orphan_count), orphan_count == 1 ? "s" : "");
     say_records();
     printf(", epoch %" PRIu64 ", room ", reading.cursor[DRIVELOG_CURSOR_SUPERLINE_EPOCH]);
     say_room();
@@ -151,7 +151,7 @@ static void say_orphans(void)
 }
 
 /* Every test in words, and what it found. */
-static void say_details(uint64_t orphans)
+static void say_details(uint64_t orphan_count)
 {
     if (reading.error != 0)
         return;
@@ -180,7 +180,7 @@ static void say_details(uint64_t orphans)
         printf("  after end  LSN %" PRIu64 ", kind %" PRIu64 ", %" PRIu64 " bytes, epoch %" PRIu64 ", mark %" PRIu64 "\n", record[DRIVELOG_RECORD_LSN],
                record[DRIVELOG_RECORD_KIND], record[DRIVELOG_RECORD_LENGTH], record[DRIVELOG_RECORD_EPOCH], record[DRIVELOG_RECORD_MARK]);
     }
-    if (orphans == 0)
+    if (orphan_count == 0)
         puts("  orphans    none");
     say_orphans();
     say_epochs();
@@ -198,10 +198,10 @@ int check_files(const char *const *names, int count, int verbose)
         say_progress(i, count);
         read_log(names[i], &reading);
         look_after_end(&reading);
-        uint64_t orphans = count_orphans();
-        int found = say_verdict(orphans);
+        uint64_t orphan_count = count_orphans();
+        int found = say_verdict(orphan_count);
         if (verbose)
-            say_details(orphans);
+            say_details(orphan_count);
         wrong += found != DONE;
         status = worse(status, found);
     }
