@@ -187,6 +187,7 @@ int orphans(void)
     uint64_t cursor[DRIVELOG_CURSOR_WORDS], record[DRIVELOG_RECORD_WORDS], listed[DRIVELOG_MAX_RECORDS];
     size_t count = 0;
     int64_t found;
+    read_images();
     open_to_read(cursor);
     while ((found = next(cursor, record)) == 1) {
         if (record[DRIVELOG_RECORD_MARK] == DRIVELOG_MARK_RELEASED)
