@@ -32,16 +32,18 @@ static _Noreturn void fail_with(int status, const char *what)
 
 _Noreturn void fail(const char *what) { fail_with(REFUSED, what); }
 
-_Noreturn void fail_by_system(void)
+const char *system_in_words(int error)
 {
-    switch (errno) {
-    case EWOULDBLOCK: fail_with(OPEN_ELSEWHERE, "another process has it open");
-    case EEXIST: fail("it is there already; format makes a new file");
-    case EISDIR: fail("it is a directory; a log is in a regular file");
-    case ENODEV: fail("it is a FIFO, a device or a socket; a log is in a regular file");
-    default: fail(strerror(errno));
+    switch (error) {
+    case EWOULDBLOCK: return "another process has it open";
+    case EEXIST: return "it is there already; format makes a new file";
+    case EISDIR: return "it is a directory; a log is in a regular file";
+    case ENODEV: return "it is a FIFO, a device or a socket; a log is in a regular file";
+    default: return strerror(error);
     }
 }
+
+_Noreturn void fail_by_system(void) { fail_with(errno == EWOULDBLOCK ? OPEN_ELSEWHERE : REFUSED, system_in_words(errno)); }
 
 _Noreturn void fail_to_read_input(void)
 {
@@ -84,37 +86,44 @@ static uint32_t crc32_of(const uint64_t *from, size_t bytes)
     return ~sum;
 }
 
+int has_its_check(const uint64_t *copy) { return copy[COPY_CHECK] == crc32_of(copy, 8 * COPY_CHECK); }
+
+const uint64_t *chosen_image(void) { return drive.images[drive.chosen]; }
+/* The bytes of its file. */
+static uint64_t bytes_of_file(void) { return file_bytes[drive.chosen]; }
+
 /* The copy of the superline that the selector names, if the file is long enough to have both. */
 static const uint64_t *active_copy(void)
 {
-    return file_bytes >= 8 * SUPERLINE_WORDS && image[0] <= 1 ? image + COPY_WORDS * (1 + image[0]) : NULL;
+    return bytes_of_file() >= 8 * SUPERLINE_WORDS && chosen_image()[0] <= 1 ? chosen_image() + COPY_WORDS * (1 + chosen_image()[0]) : NULL;
 }
 
 /* Whether the superline is good and says another size than the file has; `text` then says both. */
 static int says_other_size(char *text, size_t room)
 {
     const uint64_t *copy = active_copy();
-    if (copy == NULL || copy[COPY_CHECK] != crc32_of(copy, 8 * COPY_CHECK) || copy[COPY_RING] > DRIVELOG_MAX_IMAGE_WORDS)
+    if (copy == NULL || !has_its_check(copy) || copy[COPY_RING] > DRIVELOG_MAX_IMAGE_WORDS)
         return 0;
-    uint64_t bytes = 8 * (copy[COPY_RING] + SUPERLINE_WORDS);
-    snprintf(text, room, "the log in it has %" PRIu64 " bytes, the file has %" PRIu64 "%s", bytes, file_bytes,
-             file_bytes < bytes ? ": cut short?" : ": has it grown?");
-    return bytes != file_bytes;
+    uint64_t bytes = 8 * (copy[COPY_RING] + SUPERLINE_WORDS), in_file = bytes_of_file();
+    snprintf(text, room, "the log in it has %" PRIu64 " bytes, the file has %" PRIu64 "%s", bytes, in_file,
+             in_file < bytes ? ": cut short?" : ": has it grown?");
+    return bytes != in_file;
 }
 
 static const char *size_in_words(char *text, size_t room)
 {
-    if (file_bytes == 0)
+    uint64_t bytes = bytes_of_file();
+    if (bytes == 0)
         return "the file is empty";
     if (!says_other_size(text, room))
-        snprintf(text, room, "%" PRIu64 " bytes are not the size of an image, which has 40 to 8192 whole words of 8 bytes", file_bytes);
+        snprintf(text, room, "%" PRIu64 " bytes are not the size of an image, which has 40 to 8192 whole words of 8 bytes", bytes);
     return text;
 }
 
 static int all_zero(void)
 {
-    for (size_t i = 0; i < words; i++)
-        if (image[i] != 0)
+    for (size_t i = 0; i < drive.words; i++)
+        if (chosen_image()[i] != 0)
             return 0;
     return 1;
 }
@@ -127,11 +136,11 @@ static const char *superline_in_words(char *text, size_t room)
     if (says_other_size(text, room))
         return text;
     if (copy == NULL)
-        snprintf(text, room, "no log begins here: the selector is %" PRIu64 ", not 0 or 1", image[0]);
-    else if (copy[COPY_CHECK] != crc32_of(copy, 8 * COPY_CHECK))
-        snprintf(text, room, "no log begins here: copy %" PRIu64 " of the superline has a wrong check", image[0]);
+        snprintf(text, room, "no log begins here: the selector is %" PRIu64 ", not 0 or 1", chosen_image()[0]);
+    else if (!has_its_check(copy))
+        snprintf(text, room, "no log begins here: copy %" PRIu64 " of the superline has a wrong check", chosen_image()[0]);
     else
-        snprintf(text, room, "no log begins here: copy %" PRIu64 " of the superline has a number out of its range", image[0]);
+        snprintf(text, room, "no log begins here: copy %" PRIu64 " of the superline has a number out of its range", chosen_image()[0]);
     return text;
 }
 
@@ -151,12 +160,11 @@ static const char *argument_in_words(char *text, size_t room)
     return text;
 }
 
-/* The refusal in the reply, in words. */
-static const char *refusal_in_words(char *text, size_t room)
+const char *refusal_in_words(char *text, size_t room)
 {
-    uint64_t detail = reply[DRIVELOG_REPLY_DETAIL];
-    const char *test = test_in_words(reply[DRIVELOG_REPLY_SECOND]);
-    switch (reply[DRIVELOG_REPLY_NUMBER]) {
+    uint64_t detail = drive.reply[DRIVELOG_REPLY_DETAIL];
+    const char *test = test_in_words(drive.reply[DRIVELOG_REPLY_SECOND]);
+    switch (drive.reply[DRIVELOG_REPLY_NUMBER]) {
     case DRIVELOG_IMAGE_SIZE: return size_in_words(text, room);
     case DRIVELOG_ARGUMENT: return argument_in_words(text, room);
     case DRIVELOG_SUPERLINE: return superline_in_words(text, room);
@@ -177,28 +185,75 @@ static const char *refusal_in_words(char *text, size_t room)
         return text;
     case DRIVELOG_OPS_SHORT: snprintf(text, room, "the op buffer is too short: %" PRIu64 " words are needed", detail); return text;
     case DRIVELOG_BAD_OP: snprintf(text, room, "op %" PRIu64 " does not pass", detail); return text;
-    default: return drivelog_refusal_text((int64_t)reply[DRIVELOG_REPLY_NUMBER]);
+    default: return drivelog_refusal_text((int64_t)drive.reply[DRIVELOG_REPLY_NUMBER]);
     }
 }
 
 void say_refusal(void)
 {
     char text[200];
+    const char *words = refusal_in_words(text, sizeof text);
     fflush(stdout);
-    fprintf(stderr, "drivelog: %s: refused %" PRIu64 ": %s\n", path, reply[DRIVELOG_REPLY_NUMBER], refusal_in_words(text, sizeof text));
+    fprintf(stderr, "drivelog: %s: refused %" PRIu64 ": %s\n", path, drive.reply[DRIVELOG_REPLY_NUMBER], words);
+}
+
+/* ---------------------------------------------------------------- a module that is absent or out of step */
+
+/* What is wrong with a module, by its number, in words. */
+static const char *cause_in_words(int cause)
+{
+    switch (cause) {
+    case HANDLE_SYSTEM + EINVAL: return "its size was changed while it was open";
+    case HANDLE_ALTERED: return "another program wrote to it while it was open";
+    case HANDLE_SYSTEM + EISDIR: return system_in_words(EISDIR);
+    case HANDLE_SYSTEM + ENODEV: return system_in_words(ENODEV);
+    default: return handle_text(cause);
+    }
+}
+
+void say_modules(void)
+{
+    static int said[HANDLE_MODULES];
+    static const char *said_of;
+    if (said_of != path)
+        memset(said, 0, sizeof said);
+    said_of = path;
+    for (size_t i = 0; path_count == HANDLE_MODULES && i < HANDLE_MODULES; i++) {
+        int cause = drive.modules[i].why;
+        if (cause != 0 && cause != said[i])
+            fprintf(stderr, "drivelog: %s: %s; it is left out\n", paths[i], cause_in_words(cause));
+        said[i] = cause;
+    }
+}
+
+/* Ends the program: too few modules are in step. The one module, where there is one, says why. */
+static _Noreturn void fail_by_modules(void)
+{
+    char text[200];
+    int cause = drive.modules[0].why;
+    if (path_count == HANDLE_MODULES)
+        fail("fewer than two modules are in step; nothing more is durable");
+    if (cause == HANDLE_SYSTEM + EINVAL || cause == HANDLE_SYSTEM + ESTALE || cause == HANDLE_ALTERED)
+        snprintf(text, sizeof text, "%s; nothing more is durable", cause_in_words(cause));
+    else
+        snprintf(text, sizeof text, "the module failed: %s; the next recovery finds what it holds", handle_text(cause));
+    fail(text);
 }
 
 uint64_t granted(int64_t answer)
 {
+    say_modules();
     if (answer >= 0)
         return (uint64_t)answer;
+    if (answer <= -HANDLE_NOT_DURABLE)
+        fail_by_modules();
     say_refusal();
     exit(REFUSED);
 }
 
 _Noreturn void refuse(int number)
 {
-    reply[DRIVELOG_REPLY_NUMBER] = (uint64_t)number;
+    drive.reply[DRIVELOG_REPLY_NUMBER] = (uint64_t)number;
     say_refusal();
     exit(REFUSED);
 }

@@ -1,10 +1,10 @@
-/* tool.h: what the files of the command-line tool share. drivelog.c has the command line, read.c and write.c the commands, message.c what
- * goes wrong, in words. */
+/* tool.h: what the files of the command-line tool share. drivelog.c has the command line, message.c what goes wrong, in words; read.c,
+ * export.c, check.c, draw.c, write.c and load.c have the commands. */
 
 #ifndef TOOL_H
 #define TOOL_H
 
-#include "drivelog.h"
+#include "handle.h"
 
 enum status {
     DONE = 0,
@@ -22,16 +22,19 @@ enum {
 enum { COPY_FIRST, COPY_RING, COPY_HEAD_POS, COPY_HEAD_LSN, COPY_EPOCH, COPY_CHECK };
 #define MAX_LSN (((uint64_t)1 << 62) - 1)
 
-/* The command line. */
+/* The command line: FILE as it is given, and the one path or the three that it names. */
 extern const char *path;
+extern char *paths[HANDLE_MODULES];
+extern size_t path_count;
 extern uint64_t wait_seconds;
 
-/* The working image, one word longer than an image can be, so that a file that is too long is refused as one; and the file's size. */
-extern uint64_t image[DRIVELOG_MAX_IMAGE_WORDS + 1], reply[DRIVELOG_REPLY_WORDS];
-extern size_t words;
-extern uint64_t file_bytes;
+/* The log. A command that reads opens no module and has the images alone. */
+extern struct handle drive;
+/* The bytes of each file. */
+extern uint64_t file_bytes[HANDLE_MODULES];
 
-#define REPLY reply, DRIVELOG_REPLY_WORDS
+#define IMAGE drive.images[drive.chosen], drive.words
+#define REPLY drive.reply, DRIVELOG_REPLY_WORDS
 
 /* ---------------------------------------------------------------- message.c */
 
@@ -39,8 +42,9 @@ extern uint64_t file_bytes;
 __attribute__((noreturn, format(printf, 1, 2))) void usage(const char *format, ...);
 /* Something is wrong with the file. */
 _Noreturn void fail(const char *what);
-/* The same, for what errno says. */
+/* The same, for what errno says; and that alone, in words. */
 _Noreturn void fail_by_system(void);
+const char *system_in_words(int error);
 /* Standard input cannot be read, and errno says why. */
 _Noreturn void fail_to_read_input(void);
 
@@ -49,25 +53,42 @@ extern uint64_t asked_kind, asked_length, asked_lsn;
 
 const char *test_word(uint64_t test);
 const char *test_in_words(uint64_t test);
-/* The refusal in the reply. */
+/* The refusal in the reply, on standard error. */
 void say_refusal(void);
-/* What a call answered; a refusal is said and ends the program. */
+/* The same in words alone, of the chosen image; the text is in the room, or one that is always there. */
+const char *refusal_in_words(char *text, size_t room);
+/* The chosen image, and whether a copy of a superline has the check of its words. */
+const uint64_t *chosen_image(void);
+int has_its_check(const uint64_t *copy);
+/* What a call answered; a refusal, and too few modules, are said and end the program. */
 uint64_t granted(int64_t answer);
+/* Says, once of each, which of three modules are absent or out of step. */
+void say_modules(void);
 /* Ends the program with a refusal that the log would give whatever it holds. */
 _Noreturn void refuse(int number);
 
 /* ---------------------------------------------------------------- read.c */
 
-/* Reads the file into the image. */
-void read_image(void);
+/* Reads the files into the images; of three the chosen one is found. The one that tries returns -1 with errno if they cannot be had. */
+void read_images(void);
+int try_read_images(void);
 int64_t next(uint64_t *cursor, uint64_t *record);
-/* Whether to try once more to lock the file: errno says that another process has it, and there is time left. */
+/* Whether to try once more to lock the files: errno says that another process has one, and there is time left. */
 int try_again(void);
 
 int list(void);
-int why(uint64_t lsn);
 int orphans(void);
 int info(void);
+
+/* ---------------------------------------------------------------- export.c, check.c, draw.c, load.c */
+
+enum shape { SHAPE_TEXT, SHAPE_CSV, SHAPE_JSON };
+/* The records of so many files, all kinds for kind 0. */
+int export_files(const char *const *names, int count, enum shape shape, uint64_t kind);
+int check_files(const char *const *names, int count, int verbose);
+int why(const char *name, const uint64_t *lsns, int count);
+int draw_files(const char *const *names, int count);
+int load(const char *listing, const char *name);
 
 /* ---------------------------------------------------------------- write.c */
 
@@ -80,6 +101,8 @@ int recover(void);
 
 /* ---------------------------------------------------------------- drivelog.c */
 
+/* Makes FILE the one that commands are about: it names three modules if it has two commas and a name beside each. */
+void name_files(const char *name);
 /* The decimal number below 2^64 at the front of so many characters, digits only: how many digits it has, 0 if it is none. */
 size_t read_number(const char *text, size_t length, uint64_t *value);
 

@@ -1,10 +1,8 @@
-/* write.c: the commands that write. Each does what a drive does at power-up: it opens the module, copies its words into the working image,
- * recovers, and then makes its own calls; all ops of a call are carried out before the next call. */
+/* write.c: the commands that write. Each does what a drive does at power-up: it opens the module, or the three, recovers, and then makes its
+ * own calls, all by the handle of driver/handle.h. */
 
 #define _DEFAULT_SOURCE
 #include "tool.h"
-
-#include "driver.h"
 
 #include <errno.h>
 #include <inttypes.h>
@@ -22,12 +20,6 @@ enum {
     MAX_DIGITS = 20,                                     /* of a number below 2^64 */
     MAX_LINE = MAX_DIGITS + 1 + DRIVELOG_MAX_PAYLOAD + 1 /* KIND, space, TEXT, line feed */
 };
-
-static struct driver_module *module;
-static uint64_t state[DRIVELOG_STATE_WORDS], ops[DRIVELOG_OPS_WORDS];
-
-/* What a writing call is lent. */
-#define LENT state, DRIVELOG_STATE_WORDS, image, words, ops, DRIVELOG_OPS_WORDS
 
 /* ---------------------------------------------------------------- the file */
 
@@ -50,60 +42,54 @@ static void catch_lost_pages(void)
     sigaction(SIGBUS, &action, NULL);
 }
 
-/* What a writing call answered, with its ops carried out. */
-static uint64_t carried(int64_t answer)
-{
-    uint64_t value = granted(answer);
-    if (driver_carry(module, ops, reply[DRIVELOG_REPLY_OPS]) != 0) {
-        fflush(stdout);
-        fprintf(stderr, "drivelog: %s: the module failed: %s; the next recovery finds what it holds\n", path, strerror(errno));
-        exit(REFUSED);
-    }
-    return value;
-}
+/* Before anything is said to be done: whoever opens these paths next finds what the calls stored. */
+static void need_files(void) { granted(handle_check(&drive)); }
 
-/* Before anything is said to be done: whoever opens this path next finds what the calls stored. */
-static void need_file(void)
-{
-    if (driver_check(module, path) != 0)
-        fail(errno == ESTALE   ? "it was moved, removed or replaced while it was open; nothing more is durable"
-             : errno == EINVAL ? "its size was changed while it was open; nothing more is durable"
-                               : strerror(errno));
-    if (memcmp(module->words, image, 8 * words) != 0)
-        fail("another program wrote to it while it was open; nothing more is durable");
-}
-
-/* A file that cannot be an image is not opened for writing, and gets no room on the disk. */
+/* A file that cannot be an image is not opened for writing, and gets no room on the disk. One of three is left out. */
 static void need_size(void)
 {
     struct stat about;
-    if (stat(path, &about) != 0 || !S_ISREG(about.st_mode))
+    if (path_count != 1 || stat(path, &about) != 0 || !S_ISREG(about.st_mode))
         return;
     if (about.st_size < 8 * DRIVELOG_MIN_IMAGE_WORDS || about.st_size > DRIVELOG_MAX_IMAGE || about.st_size % 8 != 0) {
-        read_image();
+        read_images();
         refuse(DRIVELOG_IMAGE_SIZE);
     }
 }
 
-/* What a drive does at power-up: the module's words into the working image, and a recovery. */
+/* Opens the modules; 0 if another process has one of them, which is then no absent module. */
+static int open_modules(void)
+{
+    int had = 1;
+    handle_open(&drive, paths, path_count);
+    for (size_t i = 0; i < path_count; i++)
+        had = had && drive.modules[i].why != HANDLE_SYSTEM + EWOULDBLOCK;
+    if (!had)
+        handle_close(&drive);
+    errno = EWOULDBLOCK;
+    return had;
+}
+
+/* What a drive does at power-up. */
 static void power_up(void)
 {
     catch_lost_pages();
     need_size();
-    while ((module = driver_open(path)) == NULL && try_again()) {
+    int had;
+    while (!(had = open_modules()) && try_again()) {
     }
-    if (module == NULL)
+    errno = had && path_count == 1 ? drive.modules[0].why - HANDLE_SYSTEM : EWOULDBLOCK;
+    if (!had || (path_count == 1 && drive.modules[0].why > HANDLE_SYSTEM))
         fail_by_system();
-    words = module->count <= DRIVELOG_MAX_IMAGE_WORDS ? module->count : DRIVELOG_MAX_IMAGE_WORDS + 1;
-    file_bytes = 8 * (uint64_t)module->count;
-    memcpy(image, module->words, 8 * words);
-    carried(drivelog_recover(LENT, REPLY));
+    for (size_t i = 0; i < path_count; i++)
+        file_bytes[i] = 8 * (uint64_t)drive.modules[i].words;
+    granted(handle_recover(&drive));
 }
 
-/* Gives the module back; what was printed before that is true of the file. */
+/* Gives the modules back; what was printed before that is true of the files. */
 static int done(int status)
 {
-    driver_close(module);
+    handle_close(&drive);
     return status;
 }
 
@@ -115,13 +101,15 @@ int format(uint64_t asked_words)
         fail(text);
     }
     catch_lost_pages();
-    words = (size_t)asked_words;
-    granted(drivelog_format(LENT, REPLY));
-    module = driver_make(path, words, ops, reply[DRIVELOG_REPLY_OPS]);
-    if (module == NULL)
-        fail_by_system();
-    need_file();
-    printf("formatted, %zu words\n", words);
+    if (handle_format(&drive, paths, path_count, (size_t)asked_words) < 0)
+        for (size_t i = 0; i < path_count; i++)
+            if (drive.modules[i].why != 0) {
+                path = paths[i];
+                errno = drive.modules[i].why - HANDLE_SYSTEM;
+                fail_by_system();
+            }
+    need_files();
+    printf("formatted, %zu words%s\n", drive.words, path_count == 1 ? "" : ", three modules");
     return done(DONE);
 }
 
@@ -131,10 +119,10 @@ int format(uint64_t asked_words)
 static uint64_t live_records(uint64_t *next_lsn, uint64_t *epoch)
 {
     uint64_t cursor[DRIVELOG_CURSOR_WORDS], record[DRIVELOG_RECORD_WORDS], count = 0;
-    granted(drivelog_open(image, words, cursor, DRIVELOG_CURSOR_WORDS, REPLY));
+    granted(drivelog_open(IMAGE, cursor, DRIVELOG_CURSOR_WORDS, REPLY));
     while (granted(next(cursor, record)) == 1)
         count++;
-    *next_lsn = reply[DRIVELOG_REPLY_SECOND];
+    *next_lsn = drive.reply[DRIVELOG_REPLY_SECOND];
     *epoch = cursor[DRIVELOG_CURSOR_SUPERLINE_EPOCH];
     return count;
 }
@@ -144,7 +132,10 @@ int recover(void)
     uint64_t next_lsn, epoch;
     power_up();
     uint64_t live = live_records(&next_lsn, &epoch);
-    need_file();
+    need_files();
+    for (size_t i = 0; i < path_count; i++)
+        if (drive.modules[i].repaired && drive.modules[i].in_step)
+            printf("repaired %s from %s\n", paths[i], paths[drive.chosen]);
     printf("recovered, %" PRIu64 " live records, next LSN %" PRIu64 ", epoch %" PRIu64 "\n", live, next_lsn, epoch);
     return done(DONE);
 }
@@ -156,8 +147,8 @@ int release(uint64_t lsn)
     if (lsn == 0 || lsn > MAX_LSN)
         refuse(DRIVELOG_NOT_LIVE);
     power_up();
-    carried(drivelog_release(LENT, lsn, REPLY));
-    need_file();
+    granted(handle_release(&drive, lsn));
+    need_files();
     printf("%" PRIu64 " released\n", lsn);
     return done(DONE);
 }
@@ -167,32 +158,27 @@ int release_all(void)
     uint64_t next_lsn, epoch;
     power_up();
     uint64_t live = live_records(&next_lsn, &epoch);
-    carried(drivelog_release_all(LENT, REPLY));
-    need_file();
+    granted(handle_release_all(&drive));
+    need_files();
     printf("all released, %" PRIu64 " live records before, next LSN %" PRIu64 "\n", live, next_lsn);
     return done(DONE);
 }
 
-/* A record that is reserved, filled and complete, and not forced: its LSN, or minus the refusal's number. */
-static int64_t put_record(uint64_t kind, const char *payload, size_t length)
+/* Appends a record: its LSN, or minus the log's refusal. */
+static int64_t put_record(uint64_t kind, const char *payload, size_t length, uint64_t frequency)
 {
     asked_kind = kind;
     asked_length = length;
-    int64_t answer = drivelog_reserve(LENT, kind, length, REPLY);
-    if (answer < 0)
-        return answer;
-    uint64_t lsn = carried(answer);
-    carried(drivelog_copy(LENT, lsn, 0, (const uint8_t *)payload, length, REPLY));
-    carried(drivelog_complete(LENT, lsn, REPLY));
-    return answer;
+    int64_t answer = handle_append(&drive, kind, payload, length, frequency);
+    return answer < 0 && answer > -HANDLE_NOT_DURABLE ? answer : (int64_t)granted(answer);
 }
 
-/* Forces up to an LSN; whether that made it durable. */
-static int force(uint64_t lsn, uint64_t frequency)
+/* Whether a record is durable. Nothing is said to be so before the files were looked at. */
+static int is_durable(uint64_t lsn)
 {
-    int durable = carried(drivelog_force(LENT, lsn, frequency, REPLY)) == 1;
+    int durable = lsn <= drive.durable_lsn;
     if (durable)
-        need_file();
+        need_files();
     return durable;
 }
 
@@ -222,8 +208,8 @@ int append(uint64_t kind, const char *text)
     if (asked_length > DRIVELOG_MAX_PAYLOAD)
         refuse(DRIVELOG_ARGUMENT);
     power_up();
-    uint64_t lsn = granted(put_record(kind, text == NULL ? payload : text, asked_length));
-    force(lsn, 1);
+    uint64_t lsn = granted(put_record(kind, text == NULL ? payload : text, asked_length, 1));
+    need_files();
     printf("%" PRIu64 " durable\n", lsn);
     return done(DONE);
 }
@@ -349,7 +335,7 @@ static int end_by_signal(uint64_t last)
     char text[100];
     snprintf(text, sizeof text, "stopped by signal %d (%s)", stop, strsignal(stop));
     say_end(text, last);
-    driver_close(module);
+    handle_close(&drive);
     if (stop == SIGPIPE && pipe_ignored)
         return NO_OUTPUT;
     signal(stop, SIG_DFL);
@@ -380,7 +366,7 @@ static int end_of_lines(enum input input, const char *wrong, uint64_t count)
         count++;
     }
     fprintf(stderr, "drivelog: line %" PRIu64 " of standard input %s\n", count, wrong);
-    if (reply[DRIVELOG_REPLY_NUMBER] != 0)
+    if (drive.reply[DRIVELOG_REPLY_NUMBER] != 0)
         say_refusal();
     return done(REFUSED);
 }
@@ -389,9 +375,10 @@ static int end_of_lines(enum input input, const char *wrong, uint64_t count)
 static void settle(uint64_t last)
 {
     uint64_t kept[DRIVELOG_REPLY_WORDS];
-    memcpy(kept, reply, sizeof kept);
-    force(last, 1);
-    memcpy(reply, kept, sizeof kept);
+    memcpy(kept, drive.reply, sizeof kept);
+    granted(handle_force(&drive, last, 1));
+    need_files();
+    memcpy(drive.reply, kept, sizeof kept);
     if (output_error == 0 && (stop == 0 ? ready(STDOUT_FILENO, POLLOUT) : output_free()))
         say(last, 1);
 }
@@ -409,13 +396,13 @@ int write_lines(uint64_t frequency)
     while (stop == 0 && output_error == 0 && (input = next_line(&line, &length)) == LINE) {
         count++;
         wrong = parse(line, length, &kind, &text);
-        int64_t lsn = wrong == NULL ? put_record(kind, text, (size_t)(line + length - text)) : 0;
+        int64_t lsn = wrong == NULL ? put_record(kind, text, (size_t)(line + length - text), frequency) : 0;
         if (lsn < 0)
             wrong = "is refused";
         if (wrong != NULL)
             break;
         last = (uint64_t)lsn;
-        int durable = force(last, frequency);
+        int durable = is_durable(last);
         if (!ready(STDOUT_FILENO, POLLOUT))
             break;
         say(last, durable);

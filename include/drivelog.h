@@ -246,7 +246,8 @@ int64_t drivelog_payload_at(const uint8_t *image, size_t bytes, uint64_t pos, ui
 
 /* The log itself -----------------------------------------------------------------------------------------------------------------
  *
- * The calls below write the log and read it record by record (examples/c/write.c is a whole program). They do not touch the memory
+ * The calls below write the log and read it record by record (a drive holds all that they are lent in a handle, driver/handle.h;
+ * examples/c/write.c is a whole program over it). They do not touch the memory
  * module: a call stores into the working image and fills the op buffer, three words an op, as enum drivelog_op says. The program then
  * carries the ops out on the module, in turn, all of them before the next call (driver/driver.h does that for a module in a file):
  *

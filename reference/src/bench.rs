@@ -47,7 +47,7 @@ pub struct Programs<'a> {
     /// These need not be there.
     pub pmemlog: Option<&'a Path>,
     pub calls: Option<&'a Path>,
-    /// An append through the calls for C, and the same with the driver that stands on libpmem.
+    /// An append through the calls for C and through the handle, and the same with the driver that stands on libpmem.
     pub append: Option<&'a Path>,
     pub append_pmem: Option<&'a Path>,
     /// The recovery of three modules through the calls for C.
@@ -278,8 +278,9 @@ pub fn bench(programs: &Programs, rounds: usize, out: &mut impl Write) -> Result
         .into_iter()
         .flatten()
     {
-        // Some are in two tables.
-        if !cases.iter().any(|(other, _)| other == case) {
+        // Some are in two tables, and what a program that is not there would do is left out.
+        let there = case.job != CRC || programs.crc.exists();
+        if there && !cases.iter().any(|(other, _)| other == case) {
             cases.push((*case, if case.job == CRC { &checks } else { &pair }));
         }
     }
@@ -292,7 +293,11 @@ pub fn bench(programs: &Programs, rounds: usize, out: &mut impl Write) -> Result
     let times: Times = cases.iter().map(|(case, _)| *case).zip(medians).collect();
 
     print_appends(&appends, &times, out)?;
-    print_crcs(&crcs, &times, out)?;
+    if programs.crc.exists() {
+        print_crcs(&crcs, &times, out)?;
+    } else {
+        skipped("the CRC-32", Some(programs.crc), "it is built where zlib's header is", out)?;
+    }
     print_full_images(&full_images, &times, out)?;
     print_scan_growth(&scan_growth, &times, out)?;
     print_append_growth(&append_growth, &times, out)?;
@@ -306,6 +311,7 @@ pub fn bench(programs: &Programs, rounds: usize, out: &mut impl Write) -> Result
     boundary(programs, rounds, out)?;
     three_modules(programs, rounds, out)?;
     another_units_ops(programs, rounds, out)?;
+    through_the_handle(programs, rounds, out)?;
     on_a_module(programs, rounds, out)
 }
 
@@ -532,6 +538,41 @@ fn another_units_ops(
         let (c, plain) = (times[0], times[1]);
         let mut row = vec![grouped(case.live), ns(c), ns(plain), ratio(c / plain)];
         row.extend(bar(c / plain, 1.2));
+        table.row(row);
+    }
+    table.print(out)
+}
+
+/// An append through the handle on a module in /dev/shm, beside the calls that it makes, and on three modules.
+fn through_the_handle(
+    programs: &Programs,
+    rounds: usize,
+    out: &mut impl Write,
+) -> Result<(), Failure> {
+    let Some(path) = programs.append.filter(|path| path.exists()) else {
+        let built = "it is built where target/lib/libdrivelog.a is, which `make lib` writes";
+        return skipped("append through the handle", programs.append, built, out);
+    };
+    let modes: [&[&str]; 4] = [&["checked"], &["handle"], &["three"], &["carried"]];
+    let four = modes.map(|args| Program { path, args, variables: &[] });
+    let cases: Vec<(Case, &[Program])> = [(64, 0), (64, 60), (64, 250), (1_024, 0), (1_024, 60)]
+        .map(|(bytes, live)| (Case { job: APPEND, bytes, live, words: LARGEST }, &four[..]))
+        .to_vec();
+    let mut table = Table::new(
+        "Append through the handle on modules in /dev/shm, beside the calls that it makes: four of the log, driver_carry, and driver_check after a durable force.",
+        &[
+            "bytes", "live", "calls ns", "handle ns", "ratio", "bar", "", "three modules ns", "to one", "bar", "",
+            "calls without driver_check ns",
+        ],
+    );
+    for ((case, _), medians) in cases.iter().zip(medians(&cases, rounds)?) {
+        let [calls, handle, three, unchecked] = medians[..] else { continue };
+        let mut row = vec![grouped(case.bytes), grouped(case.live)];
+        row.extend([ns(calls), ns(handle), ratio(handle / calls)]);
+        row.extend(bar(handle / calls, 1.05));
+        row.extend([ns(three), ratio(three / handle)]);
+        row.extend(bar(three / handle, 3.2));
+        row.push(ns(unchecked));
         table.row(row);
     }
     table.print(out)

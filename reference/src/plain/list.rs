@@ -59,7 +59,7 @@ fn push_record(text: &mut Vec<u8>, record: &Record<[u8; 8]>) {
     text.extend_from_slice(if record.length == 0 { b"-\n" } else { b"\n" });
 }
 
-fn push_hex(text: &mut Vec<u8>, bytes: &[u8]) {
+pub(super) fn push_hex(text: &mut Vec<u8>, bytes: &[u8]) {
     let digit = |four: u8| four + if four < 10 { b'0' } else { b'a' - 10 };
     let start = text.len();
     text.resize(start + 2 * bytes.len(), 0);
@@ -69,7 +69,7 @@ fn push_hex(text: &mut Vec<u8>, bytes: &[u8]) {
     }
 }
 
-fn push_decimal(text: &mut Vec<u8>, mut number: u64) {
+pub(super) fn push_decimal(text: &mut Vec<u8>, mut number: u64) {
     let mut digits = [0; 20];
     let mut start = digits.len();
     loop {

@@ -12,6 +12,7 @@ mod load;
 mod query;
 mod scan;
 mod state;
+mod table;
 mod three;
 mod vet;
 
@@ -21,6 +22,7 @@ pub use list::list;
 pub use load::load;
 pub use query::{listed, Listed};
 pub use state::{Entry, Stage, State};
+pub use table::{table, TABLE_HEADING};
 pub use three::{recover_three, RecoveredThree};
 pub use vet::vet;
 
