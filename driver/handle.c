@@ -276,8 +276,8 @@ static int64_t append(struct handle *h, uint64_t kind, const void *bytes, size_t
 {
     if (frequency == 0)
         return -DRIVELOG_ARGUMENT;
-    if (h->open_count > 0) /* refused: a record up to the last one is open */
-        return MADE(h, drivelog_force(LENT(h), h->last_lsn, frequency, REPLY(h)));
+    if (h->open_count > 0) /* refused, and not deferred: a record up to the last one is open */
+        return MADE(h, drivelog_force(LENT(h), h->last_lsn, 1, REPLY(h)));
     int64_t lsn = handle_reserve(h, kind, count), answer = lsn;
     if (answer >= 0)
         answer = handle_copy(h, (uint64_t)lsn, 0, bytes, count);

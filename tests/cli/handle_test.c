@@ -135,6 +135,7 @@ static void one_module(void)
     EXPECT(handle_complete(&drive, 4) == 0);
     seen_count = 0;
     EXPECT(add("no") == -DRIVELOG_UNFINISHED && drive.reply[DRIVELOG_REPLY_DETAIL] == 3 && seen_count == 0);
+    EXPECT(handle_append(&drive, 9, "no", 2, 64) == -DRIVELOG_UNFINISHED && seen_count == 0);
     EXPECT(handle_release_all(&drive) == -DRIVELOG_UNFINISHED);
     EXPECT(handle_copy(&drive, 3, 0, "thr", 3) == 0 && handle_copy(&drive, 3, 3, "ee!", 3) == 0);
     EXPECT(handle_copy(&drive, 3, 4, "ee!", 3) == -DRIVELOG_BEYOND_LENGTH);
