@@ -59,6 +59,7 @@ one-of-last n (x ∷ xs) = go (eqb x n) (one-of-last n xs)
 -- ---------------------------------------------------------------- what a record found names
 module _ (b : AbstractLog) (z : Zone) (zd : Zoned b z) (img : List ℕ) (hn : length img ≡ z .c + 24)
     (ob : Obeys (Allowed b z) (length img) img) where
+  -- the word three positions on, which the image must have
   first-word : (k : ℕ) → z .lo ≤ k → k < z .stop → (e : Promise) → b k ≡ some e → 8 ≤ length (e .bytes)
       → readAt img (z .c) (startOf b k + 3) ≡ wordAt (e .bytes) 0
   unfolding sizeOf
@@ -79,9 +80,8 @@ module _ (b : AbstractLog) (z : Zone) (zd : Zoned b z) (img : List ℕ) (hn : le
           (both (eqb (g .promise .kind) replacement) (leb 8 (length (g .promise .bytes))) h .1))
 
   -- -------------------------------------------------------------- those printed
-  -- head: where the scan began; every record before the ones found that has no release begun is among the earlier
-  module _ (head : ℕ) (keeps : (n : ℕ) (e : Promise) → b n ≡ some e → e .begun ≡ false → head ≤ n)
-      (rests : (j : ℕ) → j < z .stop → RestsOn b j) where
+  module _ (rests : (j : ℕ) → j < z .stop → RestsOn b j) where
+    -- every record below an LSN that has no release begun is among the earlier listed ones
     abbrev Noted : ℕ → List ℕ → Type 0
     Noted k earlier = (n : ℕ) (e : Promise) → b n ≡ some e → e .begun ≡ false → n < k → isOneOf n earlier ≡ true
 
@@ -103,6 +103,7 @@ module _ (b : AbstractLog) (z : Zone) (zd : Zoned b z) (img : List ℕ) (hn : le
             absurd
             (false≢true (rw (found-names kl ks g, noted _ (n .promise) (n .is) (n .begun) (n .before)) at (h .1)))
 
+    -- one LSN further
     noted-next : {k : ℕ} (earlier earlier′ : List ℕ) → Noted k earlier
         → ((n : ℕ) → isOneOf n earlier ≡ true → isOneOf n earlier′ ≡ true)
         → ((e : Promise) → b k ≡ some e → e .begun ≡ false → isOneOf k earlier′ ≡ true) → Noted (suc k) earlier′
@@ -112,7 +113,7 @@ module _ (b : AbstractLog) (z : Zone) (zd : Zoned b z) (img : List ℕ) (hn : le
         go (yes q) = subst (λ (y : ℕ). isOneOf y earlier′ ≡ true) (sym q) (at-k e (ap b (sym q) ∙ is) nb)
         go (no f) = wider n (noted n e is nb (omega arith))
 
-    -- so for the records after an LSN
+    -- those printed of the records found after an LSN have a release begun
     abbrev Later : ℕ → List Found → ℕ → Type 0
     Later k rs j = (earlier : List ℕ) → Noted (suc k) earlier
         → isOneOf j (orphansAfter img earlier (listed rs)) ≡ true → ReleaseBegun b j
@@ -165,5 +166,5 @@ printed-begun s i rests j h =
     let ob = shown-obeys img refl (i .shows) (i .quiet .keeps) in
     let w = the-scan b img z zd hn ob in
     let p = point-ok b img z zd hn ob in
-    series-begun b z zd img hn ob _ (p .keeps) rests (w .series) (p .low) (w .upto) []
+    series-begun b z zd img hn ob rests (w .series) (p .low) (w .upto) []
     (λ n e is nb l. absurd (omega (arith, p .keeps n e is nb))) j (rw (scan-all b img z zd hn ob) at h)

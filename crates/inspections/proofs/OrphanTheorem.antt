@@ -50,8 +50,7 @@ module _ (c : Call) (a : Reply Granted) (count m f : ℕ) (l : Late c a f) (log 
 
 -- a force releases none
 rests-forced : (st : State) (c : Call) (a : Reply Granted) (count m : ℕ) (log : AbstractLog) (j : ℕ)
-    → InStretch st j c a
-    → NamesEarlier log j → RestsOn (feed c a count m log) j
+    → InStretch st j c a → NamesEarlier log j → RestsOn (feed c a count m log) j
 rests-forced st _ _ count m log j (in-stretch {k} {frequency} lo hi) names =
     rests-fed _ _ count m (suc j) tt log j (omega arith) (λ p is nb nz. names p is nz) (λ e is nb l nb′ x. x)
 

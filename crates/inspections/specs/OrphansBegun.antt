@@ -1,7 +1,8 @@
 -- What the program of slip 11 prints: "A program lists, in rising order, the LSNs of listed kind 600 records that name
 -- a number other than 0 which no earlier listed record has". In demand 3's runs, over power failures: if at every
 -- granted force each record of its stretch that names a number other than 0 names an earlier LSN with no release of it
--- begun, then every LSN that the program prints has a release begun.
+-- begun, then every LSN that the program prints has a release begun. It can print one: the replacement is released, its
+-- mark not flushed, and power fails in the release of the inspection, whose mark is there.
 use mathlib.Core.Path.{_≡_}
 use mathlib.Core.Logic.{_≢_}
 use mathlib.Core.List.{List, [], _∷_}
@@ -42,7 +43,7 @@ abbrev pub NamesEarlier : AbstractLog → ℕ → Type 0
 NamesEarlier log j =
     (p : Promise) → log j ≡ some p → namesIn (p .kind) (p .bytes) ≢ 0 → Earlier log j (namesIn (p .kind) (p .bytes))
 
--- so at every granted force, when it is called
+-- so does every record of the stretch, at every granted force
 unfoldable pub ForcesInspected : List Event → System → Type 0
 ForcesInspected [] s = Unit {0}
 ForcesInspected (e ∷ es) s = ((j : ℕ) → Forces e s j → NamesEarlier (s .log) j) × ForcesInspected es (after e s)
