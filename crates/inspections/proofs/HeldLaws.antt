@@ -1,33 +1,30 @@
--- A release of a record that a committed one names is refused, and what any other call leaves of records that are
--- committed.
+-- A release of a record that a committed one names is refused.
 use mathlib.Core.Path.{_≡_, refl, ap, _∙_, sym, subst}
 use mathlib.Core.List.{List}
 use mathlib.Core.Bool.{Bool, true, false, cond, true≢false, false≢true}
-use mathlib.Core.Option.{Option, some}
+use mathlib.Core.Option.{some}
 use Prim.Native.Nat.{ℕ, zero, suc, _+_, _-_, _≤_, _<_}
 use native.Mathlib.Omega.{arith}
 use native.Mathlib.Decide.{ℕ-discrete}
-use lib.Dec.{leb, ltb, eqb}
-use borrow.Author.Tests.{eq-eqb, eqb-true, ne-eqb, lt-ltb}
-use Rattle.refusal.specs.Tests.{Reply, ok, refused}
-use Rattle.refusal.proofs.TestLaws.{AllPass, and}
+use borrow.Author.Tests.{eq-eqb, lt-ltb}
+use Rattle.refusal.proofs.TestLaws.{AllPass, and, Decided, passed, failed, decided}
 use Rattle.device.proofs.CrashLaws.{shown-obeys}
 use Rattle.state.specs.Table.{entryOf, isCommitted}
 use Rattle.state.specs.declared.Stage.{Stage}
 use Rattle.state.specs.declared.State.{State}
-use Rattle.journal.specs.AbstractLog.{Promise, AbstractLog, onPromise, change, asDurable, asBegun, feedGranted, feed}
-use Rattle.journal.specs.Calls.{Call, reserve, copy, complete, force, release, releaseAll, recover}
-use Rattle.journal.specs.CrashSafe.{System}
-use Rattle.journal.specs.Effect.{Granted, done, reserved, durable, deferred}
-use Rattle.journal.specs.Release.{isHolder, firstHolder, holderOf, releaseTests}
+use Rattle.scan.specs.Names.{namesIn}
+use Rattle.journal.specs.AbstractLog.{Promise, AbstractLog, asBegun}
+use Rattle.journal.specs.Calls.{Call, reserve, copy, complete, force, release, releaseAll, recover, effectOf}
+use Rattle.journal.specs.CrashSafe.{System, GoesOn, effectIn}
+use Rattle.journal.specs.Effect.{done, Effect, effect, refusedEffect}
+use Rattle.journal.specs.Release.{isHolder, firstHolder, holderOf, releaseTests, releaseOps, releaseState, releaseEffect}
 use Rattle.journal.specs.RunLog.{RunLog}
 use Rattle.journal.proofs.AgreedLaws.{holds}
 use Rattle.journal.proofs.CallRows.{live-ok}
 use Rattle.journal.proofs.Invariant.{Dates, StageOk, is-committed, is-released, is-opened, is-complete, Inv}
 use Rattle.journal.proofs.NamedLaws.{firm-names}
 use Rattle.journal.proofs.Zones.{some-inj}
-use Rattle.replicas.proofs.FeedLaws.{Late}
-use Rattle.inspections.specs.PairStays.{StillDurable, Rests}
+use Rattle.inspections.proofs.FedLaws.{fedBy, Releases, begins-none, begins-all}
 
 -- the search finds one where there is one
 found : (st : State) (img : List ℕ) (k j lsn n : ℕ) → 1 ≤ lsn → lsn ≤ j → j < lsn + n
@@ -54,90 +51,58 @@ staged (is-released h b) l nb = absurd (true≢false (sym b ∙ nb))
 staged (is-opened h) l nb = absurd (omega arith)
 staged (is-complete h c w d) l nb = absurd (omega arith)
 
-module _ (s : System) {ran : RunLog} (i : Inv s ran) {j n : ℕ} (r : Rests (s .log) j n) where
-  -- both are among the committed ones
-  pub firm : (k : ℕ) → StillDurable (s .log) k → k < i .quiet .frame .firm
-  firm k a = i .quiet .zoned .keeps k (a .promise) (a .is) (a .durable) (a .begun)
+-- a committed record, with no release of it begun, that names an earlier one
+pub record Holds (log : AbstractLog) (firm j n : ℕ) : Type 0 where
+  pub promise : Promise
+  pub is : log j ≡ some promise
+  pub begun : promise .begun ≡ false
+  pub committed : j < firm
+  pub before : n < j
+  pub names : namesIn (promise .kind) (promise .bytes) ≡ n
 
+module _ (s : System) {ran : RunLog} (i : Inv s ran) {j n : ℕ} (r : Holds (s .log) (i .quiet .frame .firm) j n) where
   -- a release of the inspection is refused
-  pub held-back : (words : ℕ) → AllPass (releaseTests (s .state) (s .image) words n) → ⊥
+  held-back : (words : ℕ) → AllPass (releaseTests (s .state) (s .image) words n) → ⊥
   held-back words (and h1 (and h2 (and h3 (and h4 (and h5 p))))) =
       let ag = holds s i h1 in
       let live = live-ok (s .state) n h3 in
-      let a = r .replacement in
-      let high = firm j a in
+      let high = r .committed in
       let low : i .quiet .frame .head ≤ j = omega (arith, ag .«head_lsn», live .0, r .before) in
       let here : j < s .state .«next_lsn» = omega (arith, ag .order) in
       let rec = ag .records j low here in
-      let same : rec .promise ≡ a .promise = some-inj (sym (rec .is) ∙ a .is) in
-      let comm = staged (rec .stage) high (ap (λ (x : Promise). x .begun) same ∙ a .begun) in
+      let same : rec .promise ≡ r .promise = some-inj (sym (rec .is) ∙ r .is) in
+      let comm = staged (rec .stage) high (ap (λ (x : Promise). x .begun) same ∙ r .begun) in
       let named = firm-names (i .quiet .zoned) (i .quiet .size)
-      (shown-obeys (s .image) refl (i .shows) (i .quiet .keeps)) ag j low high (a .promise) (a .is) ∙ r .names in
+      (shown-obeys (s .image) refl (i .shows) (i .quiet .keeps)) ag j low high (r .promise) (r .is) ∙ r .names in
       let holder : isHolder (s .image) (s .state .area) n (entryOf (s .state) j) ≡ true =
       rw (comm, named) (eq-eqb n n refl) in
       let some = found (s .state) (s .image) n j (suc n) (s .state .«next_lsn» - suc n) (omega arith) (r .before)
       (omega arith) holder in
       false≢true (sym h5 ∙ lt-ltb 0 (holderOf (s .state) (s .image) n) some)
 
--- whether a granted call begins a release of the record k, with so many ops carried out
-abbrev pub Releases : Call → Reply Granted → ℕ → ℕ → Type 0
-Releases (release k′) (ok g) m k = k′ ≡ k
-Releases releaseAll (ok g) m k = ltb 0 m ≡ true
-Releases (reserve kind len) (ok g) m k = ⊥
-Releases (copy k′ offset bytes) (ok g) m k = ⊥
-Releases (complete k′) (ok g) m k = ⊥
-Releases (force k′ frequency) (ok g) m k = ⊥
-Releases recover (ok g) m k = ⊥
-Releases c (refused w) m k = ⊥
-
--- what a call leaves of a record that it does not write to
-pub data Fed (e : Promise) (c : Call) (a : Reply Granted) (m k : ℕ) : Option Promise → Type 0 where
-  same : Fed e c a m k (some e)
-  forced : Fed e c a m k (some (asDurable e))
-  given-back : Releases c a m k → Fed e c a m k (some (asBegun e))
-
-pub feed-cases : (c : Call) (a : Reply Granted) (count m f : ℕ) → Late c a f → (log : AbstractLog) (k : ℕ) → k < f
-    → (e : Promise) → log k ≡ some e → Fed e c a m k (feed c a count m log k)
-unfolding feed feedGranted
-feed-cases (reserve kind len) (ok (reserved q pos)) count m f l log k h e is =
-    rw (ne-eqb k q (λ x. omega arith), is) same
-feed-cases (reserve kind len) (ok done) count m f l log k h e is = rw is same
-feed-cases (reserve kind len) (ok durable) count m f l log k h e is = rw is same
-feed-cases (reserve kind len) (ok deferred) count m f l log k h e is = rw is same
-feed-cases (copy k′ offset bytes) (ok g) count m f l log k h e is = rw (ne-eqb k′ k (λ x. omega arith), is) same
-feed-cases (complete k′) (ok g) count m f l log k h e is = rw (ne-eqb k′ k (λ x. omega arith), is) same
-feed-cases (force k′ frequency) (ok durable) count m f l log k h e is = whole (eqb m count)
-  where
-    up : (t : Bool) → Fed e (force k′ frequency) (ok durable) m k (cond t (onPromise asDurable (log k)) (log k))
-    up true = rw is forced
-    up false = rw is same
-
-    whole : (w : Bool)
-        → Fed e (force k′ frequency) (ok durable) m k (cond w (change (λ lsn. leb lsn k′) asDurable log) log k)
-    whole true = up (leb k k′)
-    whole false = rw is same
-feed-cases (force k′ frequency) (ok deferred) count m f l log k h e is = rw is same
-feed-cases (force k′ frequency) (ok done) count m f l log k h e is = rw is same
-feed-cases (force k′ frequency) (ok (reserved q pos)) count m f l log k h e is = rw is same
-feed-cases (release k′) (ok g) count m f l log k h e is = begun (ltb 0 m)
-  where
-    at : (t : Bool) → eqb k′ k ≡ t → Fed e (release k′) (ok g) m k (cond t (onPromise asBegun (log k)) (log k))
-    at true q = rw is (given-back (eqb-true k′ k q))
-    at false q = rw is same
-
-    begun : (w : Bool) → Fed e (release k′) (ok g) m k (cond w (change (eqb k′) asBegun log) log k)
-    begun true = at (eqb k′ k) refl
-    begun false = rw is same
-feed-cases releaseAll (ok g) count m f l log k h e is = begun (ltb 0 m) refl
-  where
-    begun : (w : Bool) → ltb 0 m ≡ w → Fed e releaseAll (ok g) m k (cond w (change (λ lsn. true) asBegun log) log k)
-    begun true q = rw is (given-back q)
-    begun false q = rw is same
-feed-cases recover (ok g) count m f l log k h e is = rw is same
-feed-cases (reserve kind len) (refused w) count m f l log k h e is = rw is same
-feed-cases (copy k′ offset bytes) (refused w) count m f l log k h e is = rw is same
-feed-cases (complete k′) (refused w) count m f l log k h e is = rw is same
-feed-cases (force k′ frequency) (refused w) count m f l log k h e is = rw is same
-feed-cases (release k′) (refused w) count m f l log k h e is = rw is same
-feed-cases releaseAll (refused w) count m f l log k h e is = rw is same
-feed-cases recover (refused w) count m f l log k h e is = rw is same
+  module _ (g : GoesOn) (words m : ℕ) where
+    -- the inspection is not given back
+    pub not-back : (c : Call) → ((p : Promise) → fedBy s g words m c j ≡ some p → p .begun ≡ false)
+        → Releases c ((effectIn s g c words) .reply) m n → ⊥
+    unfolding effectOf releaseEffect
+    not-back (release k) nb x = go (decided (releaseTests (s .state) (s .image) words k) (refusedEffect (s .state))
+        (effect done (releaseState (s .state) k) (releaseOps (s .state) k))) x
+      where
+        go : {o : Effect} → Decided (releaseTests (s .state) (s .image) words k) (refusedEffect (s .state))
+            (effect done (releaseState (s .state) k) (releaseOps (s .state) k)) o
+            → Releases (release k) (o .reply) m n → ⊥
+        go (passed p) x =
+            held-back words (subst (λ (y : ℕ). AllPass (releaseTests (s .state) (s .image) words y)) x p)
+        go (failed w) x = x
+    not-back releaseAll nb x =
+        true≢false (nb (asBegun (r .promise)) (begins-all _ _ m n j (s .log) (r .promise) x (r .is)))
+    not-back (reserve kind len) nb x =
+        begins-none (reserve kind len) ((effectIn s g (reserve kind len) words) .reply) m n refl x
+    not-back (copy k offset bytes) nb x =
+        begins-none (copy k offset bytes) ((effectIn s g (copy k offset bytes) words) .reply) m n refl x
+    not-back (complete k) nb x =
+        begins-none (complete k) ((effectIn s g (complete k) words) .reply) m n refl x
+    not-back (force k frequency) nb x =
+        begins-none (force k frequency) ((effectIn s g (force k frequency) words) .reply) m n refl x
+    not-back recover nb x =
+        begins-none recover ((effectIn s g recover words) .reply) m n refl x
