@@ -184,7 +184,7 @@ bench: programs bench-c
 	cd reference && cargo build --profile plain --offline --quiet --bin plain_bench
 	$(reference) bench target/bin/bench reference/target/plain/plain_bench target/bench/crc target/bench/pmemlog \
 	  --calls target/bench/calls --append target/bench/append --append-pmem target/bench/append-pmem --three target/bench/three \
-	  --vet target/bench/vet --rounds $(ROUNDS)
+	  --vet target/bench/vet --crashes target/bench/crashes --rounds $(ROUNDS)
 
 bench-export: tool
 	@tools/need bench-export cargo python3
@@ -197,13 +197,15 @@ has_zlib = echo '\#include <zlib.h>' | gcc -E - > /dev/null 2>&1
 bench-c:
 	@tools/need bench gcc
 	mkdir -p target/bench
-	rm -f target/bench/crc target/bench/calls target/bench/append target/bench/append-pmem target/bench/pmemlog target/bench/three target/bench/vet
+	rm -f target/bench/crc target/bench/calls target/bench/append target/bench/append-pmem target/bench/pmemlog target/bench/three target/bench/vet \
+	  target/bench/crashes
 	if $(has_zlib); then gcc -O2 -Wall -Wextra -o target/bench/crc tests/bench/crc.c -lz; \
 	else echo "zlib.h is not installed (Debian: zlib1g-dev), so zlib's CRC-32 and the calls for C are left out"; fi
 	if [ -e $(archive) ] && $(has_zlib); then \
 	  gcc -O2 -Wall -Wextra -Iinclude -o target/bench/calls tests/bench/calls.c $(archive) -lz && \
 	  gcc -O2 -Wall -Wextra -Iinclude -o target/bench/three tests/bench/three.c $(archive) -lz && \
 	  gcc -O2 -Wall -Wextra -Iinclude -o target/bench/vet tests/bench/vet.c $(archive) && \
+	  gcc -O2 -Wall -Wextra -Iinclude -o target/bench/crashes tests/bench/crashes.c $(archive) && \
 	  gcc $(append_c) -o target/bench/append $(append_from) -lz; fi
 	if [ -e $(archive) ] && $(has_zlib) && pkg-config --exists libpmem; then \
 	  gcc $(append_c) -DDRIVER_PMEM -o target/bench/append-pmem $(append_from) -lz $$(pkg-config --cflags --libs libpmem); fi

@@ -5,6 +5,7 @@
 //! of each. Jobs of the calls for C have the bytes of a full image behind the five words.
 
 use crate::layout::{OLD_TABLE_SIZE, TABLE_SIZE};
+use crate::numbered_crashes::MOST_CRASHES;
 use crate::samples::{full_image, full_image_length};
 use std::collections::BTreeMap;
 use std::fmt;
@@ -25,6 +26,8 @@ const RECOVER_ONE: u64 = 9;
 const RECOVER_THREE: u64 = 10;
 const REPAIR: u64 = 11;
 const VET: u64 = 12;
+const CRASHES_OF_STORES: u64 = 13;
+const CRASHES_OF_FLUSHES: u64 = 14;
 /// Release of the head, plus the number of released records behind it.
 const RELEASE: u64 = 1000;
 /// The same with an LSN that is not live: refused right behind the soundness test.
@@ -54,6 +57,8 @@ pub struct Programs<'a> {
     pub three: Option<&'a Path>,
     /// The check of another unit's ops through the calls for C.
     pub vet: Option<&'a Path>,
+    /// The numbered crashes through the calls for C.
+    pub crashes: Option<&'a Path>,
 }
 
 pub enum Failure {
@@ -133,6 +138,8 @@ impl Case {
             RECOVER_THREE => "three equal ones",
             REPAIR => "three, one to repair",
             VET => "vet of 1,000 ops",
+            CRASHES_OF_STORES => "11 stores and a flush of all",
+            CRASHES_OF_FLUSHES => "4,095 flushes of one word",
             RELEASE..NOT_LIVE => "release",
             _ => "release of no live LSN",
         }
@@ -151,7 +158,9 @@ impl fmt::Display for Case {
 fn medians(cases: &[(Case, &[Program])], rounds: usize) -> Result<Vec<Vec<f64>>, Failure> {
     let mut counts = Vec::new();
     for (case, programs) in cases {
-        let mut count = 64;
+        // Each crash is asked for as often as every other.
+        let crashes = [CRASHES_OF_STORES, CRASHES_OF_FLUSHES].contains(&case.job);
+        let mut count = if crashes { MOST_CRASHES } else { 64 };
         while programs[0].run(*case, count)?.0 < RUN_TIME && count < 1 << 30 {
             count *= 2;
         }
@@ -311,6 +320,7 @@ pub fn bench(programs: &Programs, rounds: usize, out: &mut impl Write) -> Result
     boundary(programs, rounds, out)?;
     three_modules(programs, rounds, out)?;
     another_units_ops(programs, rounds, out)?;
+    numbered_crashes(programs, rounds, out)?;
     through_the_handle(programs, rounds, out)?;
     on_a_module(programs, rounds, out)
 }
@@ -538,6 +548,32 @@ fn another_units_ops(
         let (c, plain) = (times[0], times[1]);
         let mut row = vec![grouped(case.live), ns(c), ns(plain), ratio(c / plain)];
         row.extend(bar(c / plain, 1.2));
+        table.row(row);
+    }
+    table.print(out)
+}
+
+/// All crashes of an op buffer that has 4,096, asked for by number through the calls for C, beside plain Rust.
+fn numbered_crashes(
+    programs: &Programs,
+    rounds: usize,
+    out: &mut impl Write,
+) -> Result<(), Failure> {
+    let Some(crashes) = programs.crashes.filter(|path| path.exists()) else {
+        let built = "it is built where target/lib/libdrivelog.a is, which `make lib` writes";
+        return skipped("the numbered crashes", programs.crashes, built, out);
+    };
+    let pair = [Program::new(crashes), Program::new(programs.plain)];
+    let cases = [CRASHES_OF_STORES, CRASHES_OF_FLUSHES]
+        .map(|job| (Case { job, bytes: 0, live: 0, words: LARGEST }, &pair[..]));
+    let mut table = Table::new(
+        "The image of a crash by its number through the calls for C, for each of the 4,096 crashes of an op buffer. Image of 8,192 words.",
+        &["op buffer", "C ns", "plain Rust ns", "ratio", "bar", ""],
+    );
+    for ((case, _), times) in cases.iter().zip(medians(&cases, rounds)?) {
+        let (c, plain) = (times[0], times[1]);
+        let mut row = vec![case.call().to_string(), ns(c), ns(plain), ratio(c / plain)];
+        row.extend(bar(c / plain, 1.3));
         table.row(row);
     }
     table.print(out)

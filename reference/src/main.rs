@@ -59,7 +59,7 @@ usage: reference example                 print the listing that the program exam
        reference time PROGRAM...         how long each takes to list a full image
        reference time-load PROGRAM...    how long each takes to load the listing of a full image
        reference same-work PROVED PLAIN  whether two bench programs leave the same
-       reference bench PROVED PLAIN C_BENCH [PMEM] [--calls C_CALLS] [--append C_APPEND] [--append-pmem C_APPEND] [--three C_THREE] [--vet C_VET] [--rounds N]
+       reference bench PROVED PLAIN C_BENCH [PMEM] [--calls C_CALLS] [--append C_APPEND] [--append-pmem C_APPEND] [--three C_THREE] [--vet C_VET] [--crashes C_CRASHES] [--rounds N]
                                          how long the calls take, case by case
        reference cover SEED N            count what N scripts reach
        reference crash SECONDS [--program PATH] [--seed S] [--shortcut K]
@@ -332,7 +332,7 @@ fn run(args: &[&str]) -> io::Result<ExitCode> {
                 _ => (None, options),
             };
             let (mut calls, mut append, mut append_pmem) = (None, None, None);
-            let (mut three, mut vet) = (None, None);
+            let (mut three, mut vet, mut crashes) = (None, None, None);
             let mut rounds = 31;
             for option in options.chunks(2) {
                 match *option {
@@ -341,6 +341,7 @@ fn run(args: &[&str]) -> io::Result<ExitCode> {
                     ["--append-pmem", path] => append_pmem = Some(Path::new(path)),
                     ["--three", path] => three = Some(Path::new(path)),
                     ["--vet", path] => vet = Some(Path::new(path)),
+                    ["--crashes", path] => crashes = Some(Path::new(path)),
                     ["--rounds", number] => rounds = parse(number)?,
                     _ => return Err(invalid(format!("not an option: {}", option.join(" ")))),
                 }
@@ -349,8 +350,18 @@ fn run(args: &[&str]) -> io::Result<ExitCode> {
                 return Err(invalid("not a good number: 0".to_string()));
             }
             let (proved, plain, crc) = (Path::new(proved), Path::new(plain), Path::new(crc));
-            let programs =
-                Programs { proved, plain, crc, pmemlog, calls, append, append_pmem, three, vet };
+            let programs = Programs {
+                proved,
+                plain,
+                crc,
+                pmemlog,
+                calls,
+                append,
+                append_pmem,
+                three,
+                vet,
+                crashes,
+            };
             let done = bench(&programs, rounds, &mut stdout);
             return no_difference(done, &mut stdout);
         }

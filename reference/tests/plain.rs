@@ -4,6 +4,7 @@ use reference::calls::{self, Done};
 use reference::images::{image, SORTS};
 use reference::layout::{crc32, record_size, TABLE_SIZE};
 use reference::loglist::loglist;
+use reference::numbered_crashes::{crash, crash_count};
 use reference::plain;
 use reference::refusal::Refusal;
 use reference::replay::Machine;
@@ -490,4 +491,93 @@ fn vets_alike() {
         }
     }
     assert!(passed > 300 && refused > 1_000, "{passed} {refused}");
+}
+
+/// Stores and flushes of few words, with values that come again; the last op may be none, or a part of one.
+fn few_ops(rng: &mut Rng, words: u64) -> Vec<u64> {
+    let span = rng.between(1, 12).min(words);
+    let base = rng.below(words - span + 1);
+    let (values, stores) = (rng.between(2, 5), rng.below(9));
+    let count = rng.pick(&[3, 8, 20, 60, 200]);
+    let mut buffer = Vec::new();
+    for _ in 0..rng.below(count + 1) {
+        let word = base + rng.below(span);
+        buffer.extend(match rng.below(9) < stores {
+            true => [1, word, rng.below(values)],
+            false => [2, word, rng.between(1, words - word)],
+        });
+    }
+    if rng.chance(1, 6) {
+        let ends: [&[u64]; 10] = [
+            &[1],
+            &[2, 0],
+            &[0, 0, 1],
+            &[3, 0, 1],
+            &[1, words, 0],
+            &[1, u64::MAX, 0],
+            &[2, 0, 0],
+            &[2, 0, words + 1],
+            &[2, words, 1],
+            &[2, 1, u64::MAX],
+        ];
+        buffer.extend(rng.pick(&ends));
+    }
+    buffer
+}
+
+/// The numbered crashes: count, point and image, or the refusal, which leaves the output.
+#[test]
+fn crashes_alike() {
+    let mut met = BTreeSet::new();
+    let mut images = 0;
+    let mut same = |image: &[u64], buffer: &[u64], rng: &mut Rng| {
+        let total = crash_count(image, buffer);
+        assert_eq!(plain::crash_count(image, buffer), total);
+        let most = total.unwrap_or(2);
+        let room = image.len();
+        let mut numbers: Vec<(u64, usize)> = if most <= 40 {
+            (0..most).map(|number| (number, room)).collect()
+        } else {
+            (0..20).map(|_| (rng.below(most), room)).chain([(most - 1, room)]).collect()
+        };
+        numbers.extend([(most, room), (4_096, room), (u64::MAX, room), (0, room + 1)]);
+        for (number, room) in numbers {
+            let mut output = vec![7; room];
+            let fast = plain::crash_image(image, buffer, number, &mut output);
+            let clear = crash(image, buffer, number, room);
+            assert_eq!(fast, clear.as_ref().map(|it| it.point as u64).map_err(|it| *it));
+            met.insert(clear.as_ref().map_or_else(|refusal| refusal.number(), |_| 0));
+            images += u64::from(clear.is_ok());
+            assert!(output == clear.map_or(vec![7; room], |it| it.image), "crash {number}");
+        }
+    };
+    for seed in 0..3_000 {
+        let mut rng = Rng::new(seed);
+        let words = rng.pick(&[39, 40, 40, 41, 64, 64, 100]);
+        let image: Vec<u64> = (0..words).map(|_| rng.below(3)).collect();
+        same(&image, &few_ops(&mut rng, words), &mut rng);
+    }
+    // The largest image and one that is too large, and both edges of the most crashes.
+    let mut rng = Rng::new(1);
+    for words in [8_192, 8_193] {
+        same(&vec![1; words as usize], &few_ops(&mut rng, words), &mut rng);
+    }
+    for count in [4_094, 4_095, 4_096] {
+        same(&[1; 40], &[2, 0, 1].repeat(count), &mut rng);
+    }
+    for count in [11, 12] {
+        let stores: Vec<u64> = (0..count).flat_map(|i| [1, 39 - 3 * i, 5]).collect();
+        same(&[1; 40], &stores, &mut rng);
+        same(&[1; 40], &[&stores[..], &[2, 0, 40]].concat(), &mut rng);
+        same(&[1; 40], &[&stores[..], &[2, 0, 40, 2, 0, 40]].concat(), &mut rng);
+        same(&[1; 40], &[&stores[..], &[2, 0]].concat(), &mut rng);
+    }
+    // So many values of one word, and of one that is then flushed.
+    for count in [88, 89, 90, 91] {
+        let stores: Vec<u64> = (0..count).flat_map(|i| [1, 5, i + 2]).collect();
+        same(&[1; 40], &stores, &mut rng);
+        same(&[1; 40], &[&stores[..], &[2, 5, 1]].concat(), &mut rng);
+    }
+    assert_eq!(met, BTreeSet::from([0, 1, 21, 22, 23]));
+    assert!(images > 20_000, "{images}");
 }

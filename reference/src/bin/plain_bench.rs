@@ -3,7 +3,8 @@
 //!
 //! Jobs: 1 append, 2 CRC-32, 3 recover, 4 list. Jobs 5 to 7 read an image of so many words behind the five numbers and get, in one pass,
 //! what tests/bench/calls.c gets call by call: 5 the number of listed records, 6 the last of them, 7 all of them. Jobs 9 to 11 recover it as
-//! tests/bench/three.c does: 9 alone, 10 with two copies of it, 11 with one of the copies to repair. Job 12 vets 1,000 ops as tests/bench/vet.c does. Job 1000 + k is the release of the head with k released records behind it, 2000 + k one that is refused behind the soundness test.
+//! tests/bench/three.c does: 9 alone, 10 with two copies of it, 11 with one of the copies to repair. Job 12 vets 1,000 ops as tests/bench/vet.c does. Jobs 13 and 14
+//! ask for crashes by number, as tests/bench/crashes.c does. Job 1000 + k is the release of the head with k released records behind it, 2000 + k one that is refused behind the soundness test.
 
 use reference::calls::Done;
 use reference::layout::{words_of_bytes, TABLE_SIZE};
@@ -96,6 +97,12 @@ fn main() -> io::Result<()> {
         }
         return Ok(());
     }
+    if (13..=14).contains(&job) && (40..=8_192).contains(&words) {
+        if let Some((time, digest)) = crashes(job, count, words) {
+            println!("{time} {digest}");
+        }
+        return Ok(());
+    }
     if (1..=1_024).contains(&bytes) && live <= TABLE_SIZE as u64 && (40..=8_192).contains(&words) {
         if let Some((time, digest)) = run(job, bytes, live, count, words as usize) {
             println!("{time} {digest}");
@@ -153,6 +160,37 @@ fn recovery(job: u64, count: u64, image: &[u8]) -> Option<(i64, u64)> {
         }
     });
     (granted == count).then(|| (time, plain::crc32_of_words(&images[2])))
+}
+
+/// The same for a job that asks for one crash after another, and from the first again. The digest is that of all images and points.
+fn crashes(job: u64, count: u64, words: u64) -> Option<(i64, u64)> {
+    let image: Vec<u64> = (0..words).map(|i| 7 * i + 3).collect();
+    let ops: Vec<u64> = match job {
+        13 => {
+            // Of 11 words, in neither order.
+            let stores = (0..11).map(|i| [1, 5 * i % 11 * (words / 11), i]);
+            stores.chain([[2, 0, words]]).flatten().collect()
+        }
+        _ => (0..4_095).flat_map(|i| [2, i % words, 1]).collect(),
+    };
+    let total = plain::crash_count(&image, &ops).ok()?;
+    let mut output = vec![0; image.len()];
+    let mut found = 0;
+    let time = time(|| {
+        for i in 0..count {
+            let image = black_box(&image);
+            found += u64::from(plain::crash_image(image, &ops, i % total, &mut output).is_ok());
+            black_box(&output);
+        }
+    });
+    let mut digest = total;
+    for number in 0..total {
+        let point = plain::crash_image(&image, &ops, number, &mut output).ok()?;
+        for word in output.iter().chain([&point]) {
+            digest = digest.wrapping_mul(0x9E37_79B9_7F4A_7C15).wrapping_add(*word);
+        }
+    }
+    (found == count).then_some((time, digest))
 }
 
 /// The time and the digest of a job, if there is such a job.

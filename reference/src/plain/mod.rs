@@ -6,6 +6,7 @@
 //! two runs, four at a time by wide loads, and the ring is stepped through without a division.
 
 mod calls;
+mod crashes;
 mod crc;
 mod list;
 mod load;
@@ -17,6 +18,7 @@ mod three;
 mod vet;
 
 pub use calls::{complete, copy, force, format, recover, release, reserve};
+pub use crashes::{crash_count, crash_image};
 pub use crc::{crc32_of_bytes, crc32_of_words};
 pub use list::list;
 pub use load::load;
