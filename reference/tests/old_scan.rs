@@ -20,7 +20,7 @@ fn log(rng: &mut Rng, count: u64) -> Vec<u64> {
     let mut state = calls::format(&mut image, &mut ops).unwrap().answer;
     for lsn in 1..=count {
         let length = rng.below(9);
-        let kind = rng.between(1, 65_535);
+        let kind = rng.between(601, 65_535);
         calls::reserve(&mut image, &mut ops, &mut state, kind, length).unwrap();
         let bytes = rng.bytes(length);
         calls::copy(&mut image, &mut ops, &mut state, lsn, 0, &bytes).unwrap();
