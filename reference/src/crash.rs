@@ -53,6 +53,8 @@ pub struct Program {
 pub struct Report {
     pub histories: u64,
     pub crashes: u64,
+    /// How many of these were in an append, after at least one of its ops.
+    pub append_crashes: u64,
     pub images: u64,
     /// The most records that a crash image held, and the most different epochs.
     pub most_records: usize,
@@ -480,14 +482,17 @@ impl<'a> History<'a> {
             (1, Effort::FULL, Effort::SMALL)
         };
 
+        let in_append = u64::from(matches!(call, Command::Append { .. }) && some > 0);
         let every = if self.keeps { 9 } else { 12 };
         if self.rng.chance(1, every * seldom) {
+            self.report.append_crashes += in_append;
             self.carry_out(&answer.ops[..some]);
             self.promises.feed(&call, &answer, some, self.epoch);
             return self.crash(full).map_err(|what| describe(&call, some, all, &what));
         }
         if self.rng.chance(2, 5 * seldom) {
             // What if it failed here?
+            self.report.append_crashes += in_append;
             let mut device = self.device.clone();
             answer.ops[..some].iter().for_each(|&op| device.carry_out(op));
             let mut promises = self.promises.clone();

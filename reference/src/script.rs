@@ -66,9 +66,7 @@ impl Command {
             Command::Release { lsn } => vec![15, lsn],
             Command::ReleaseAll => vec![16],
             Command::Recover => vec![17],
-            Command::Append { kind, frequency, ref bytes } => {
-                with_data(18, kind, frequency, bytes)
-            }
+            Command::Append { kind, frequency, ref bytes } => with_data(18, kind, frequency, bytes),
             Command::Open => vec![20],
             Command::Next => vec![21],
             Command::Fetch { position, length, output } => vec![22, position, length, output],
