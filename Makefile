@@ -8,7 +8,7 @@ reference = reference/target/release/reference
 archive = target/lib/libdrivelog.a
 tool = target/bin/drivelog
 # The crates whose functions are the calls for C: those that read an image's bytes, and those of the log with its state in lent words.
-c_crates = c_query c_read c_write c_three c_vet c_crash
+c_crates = c_query c_read c_write c_append c_three c_vet c_crash
 # What the archive is made of: the files of these crates and of all that they stand on.
 c_sources := $(shell tools/sources $(c_crates))
 cli_c = $(wildcard cli/*.c driver/*.c)
@@ -37,7 +37,7 @@ help:
 	@echo "make list          the records of a sample module, by loglist"
 	@echo "make load          an image made from a sample listing by logload, and listed again"
 	@echo "make compare       all five comparisons with the reference, SCRIPTS=1000 SEED=1:"
-	@echo "  compare-calls    the eleven calls, on random scripts, and loglist on random images"
+	@echo "  compare-calls    the eleven calls and append, on random scripts, and loglist on random images"
 	@echo "  compare-c        the calls for C, on images and scripts"
 	@echo "  compare-why      logwhy"
 	@echo "  compare-orphans  logorphans"

@@ -431,9 +431,10 @@ fn crash(seconds: &str, options: &[&str]) -> io::Result<ExitCode> {
         println!("seed {}: {}", failure.seed, failure.what);
     }
     println!(
-        "crash: {} histories, {} crashes, {} images, {} failures",
+        "crash: {} histories, {} crashes, {} of them in an append, {} images, {} failures",
         report.histories,
         report.crashes,
+        report.append_crashes,
         report.images,
         report.failure.iter().count(),
     );
