@@ -571,8 +571,8 @@ int64_t drivelog_crash_image(const uint64_t *image, size_t image_words, const ui
      Returns the crash point: how many ops are done. Or -DRIVELOG_IMAGE_SIZE (output_words is not image_words too), -DRIVELOG_BAD_OP,
    -DRIVELOG_TOO_MANY_CRASHES or -DRIVELOG_NO_SUCH_CRASH; then the output stays as it was.
 
-     It takes twice the time of drivelog_crash_count, a copy of the image, and of each op before the point that stores a pass over the
-   ops before the point. Neither call needs more than 4,096 bytes of stack.
+     It takes at most twice the time of drivelog_crash_count, a copy of the image, and of each op before the point that stores a pass
+   over the ops before the point. Neither call needs more than 4,096 bytes of stack.
 
      Example, every crash of a call in turn:
 
