@@ -53,6 +53,8 @@ pub struct Programs<'a> {
     /// An append through the calls for C and through the handle, and the same with the driver that stands on libpmem.
     pub append: Option<&'a Path>,
     pub append_pmem: Option<&'a Path>,
+    /// The driver that stands on libpmem, alone, with the ops of a durable append.
+    pub carry: Option<&'a Path>,
     /// The recovery of three modules through the calls for C.
     pub three: Option<&'a Path>,
     /// The check of another unit's ops through the calls for C.
@@ -322,7 +324,8 @@ pub fn bench(programs: &Programs, rounds: usize, out: &mut impl Write) -> Result
     another_units_ops(programs, rounds, out)?;
     numbered_crashes(programs, rounds, out)?;
     through_the_handle(programs, rounds, out)?;
-    on_a_module(programs, rounds, out)
+    on_a_module(programs, rounds, out)?;
+    durable_on_a_module(programs, rounds, out)
 }
 
 /// The medians of each case's programs.
@@ -654,6 +657,42 @@ fn on_a_module(programs: &Programs, rounds: usize, out: &mut impl Write) -> Resu
             let time = program.as_ref().and_then(|_| medians.next());
             row.push(time.map_or("not there".to_string(), ns));
         }
+        table.row(row);
+    }
+    table.print(out)
+}
+
+/// A durable append on a module in /dev/shm, with no msync: the driver's share, and the whole of it, beside libpmemlog's append.
+fn durable_on_a_module(
+    programs: &Programs,
+    rounds: usize,
+    out: &mut impl Write,
+) -> Result<(), Failure> {
+    const LINES: &[(&str, &str)] = &[("PMEM_IS_PMEM_FORCE", "1")];
+    let (Some(carry), Some(append), Some(pmemlog)) = (
+        programs.carry.filter(|path| path.exists()),
+        programs.append_pmem.filter(|path| path.exists()),
+        programs.pmemlog.filter(|path| path.exists()),
+    ) else {
+        let built = "it is built where libpmem and libpmemlog are";
+        return skipped("a durable append on a module", programs.carry, built, out);
+    };
+    let columns: [(&Path, &[&str]); 3] = [(carry, &[]), (append, &["durable"]), (pmemlog, &[])];
+    let each = columns.map(|(path, args)| [Program { path, args, variables: LINES }]);
+    let lengths = [64, 1_024];
+    let mut cases: Vec<(Case, &[Program])> = Vec::new();
+    for bytes in lengths {
+        let case = Case { job: APPEND, bytes, live: 0, words: LARGEST };
+        cases.extend(each.iter().map(|program| (case, &program[..])));
+    }
+    let mut table = Table::new(
+        "A durable append on a module in /dev/shm taken for persistent memory: its ops alone, reserve to force with frequency 1 and a release, and libpmemlog's.",
+        &["bytes", "driver_carry ns", "calls and driver_carry ns", "libpmemlog ns"],
+    );
+    let mut medians = medians(&cases, rounds)?.into_iter().flatten();
+    for bytes in lengths {
+        let mut row = vec![grouped(bytes)];
+        row.extend(medians.by_ref().take(each.len()).map(ns));
         table.row(row);
     }
     table.print(out)

@@ -2,12 +2,13 @@
  *
  *     append            the calls alone
  *     append carried    their ops are carried out on a module in /dev/shm
+ *     append durable    the same with frequency 1
  *     append checked    and after a force that answers durable the module's path is looked at, which are the calls that the handle makes
  *     append handle     the handle, on one module there
  *     append three      the handle, on three
  *
  * Standard input: five little-endian words, job, bytes, live, count and words; the job is 1. A log with `live` records, all durable, is
- * set up. Timed, `count` times: reserve, copy, complete, force with frequency 8, and releases from the head on until `live` records are
+ * set up. Timed, `count` times: reserve, copy, complete, force with frequency 8 or 1, and releases from the head on until `live` records are
  * left. It is job 1 of crates/bench, call by call. Standard output: the microseconds of CPU time, and the CRC-32 of the image's words,
  * or of the last module's. Bad input: nothing. The modules are files that are gone at the end. */
 
@@ -21,8 +22,8 @@
 #include <unistd.h>
 #include <zlib.h>
 
-enum mode { CALLS, CARRIED, CHECKED, HANDLE, THREE, MODES };
-static const char *const names[MODES] = {"", "carried", "checked", "handle", "three"};
+enum mode { CALLS, CARRIED, DURABLE, CHECKED, HANDLE, THREE, MODES };
+static const char *const names[MODES] = {"", "carried", "durable", "checked", "handle", "three"};
 
 /* Its words are lent to the calls where there is no handle. */
 static struct handle drive;
@@ -66,7 +67,7 @@ static void append_by_calls(const uint8_t *payload, size_t bytes)
     next = (uint64_t)lsn + 1;
     made(drivelog_copy(LENT, (uint64_t)lsn, 0, payload, bytes, REPLY));
     made(drivelog_complete(LENT, (uint64_t)lsn, REPLY));
-    force((uint64_t)lsn, 8);
+    force((uint64_t)lsn, mode == DURABLE ? 1 : 8);
 }
 
 static void append(const uint8_t *payload, size_t bytes)
@@ -109,7 +110,7 @@ int main(int arguments, char **argument)
     while (mode < MODES && strcmp(names[mode], arguments == 2 ? argument[1] : "") != 0)
         mode++;
     if (arguments > 2 || mode == MODES) {
-        fputs("usage: append [carried|checked|handle|three]\n", stderr);
+        fputs("usage: append [carried|durable|checked|handle|three]\n", stderr);
         return 2;
     }
     if (fread(input, 8, 5, stdin) != 5)
