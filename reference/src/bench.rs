@@ -59,6 +59,8 @@ pub struct Programs<'a> {
     /// An append through the calls for C and through the handle, and the same with the driver that stands on libpmem.
     pub append: Option<&'a Path>,
     pub append_pmem: Option<&'a Path>,
+    /// The driver that stands on libpmem, alone, with the ops of a durable append.
+    pub carry: Option<&'a Path>,
     /// The recovery of three modules through the calls for C.
     pub three: Option<&'a Path>,
     /// The check of another unit's ops through the calls for C.
@@ -332,7 +334,8 @@ pub fn bench(programs: &Programs, rounds: usize, out: &mut impl Write) -> Result
     another_units_ops(programs, rounds, out)?;
     numbered_crashes(programs, rounds, out)?;
     through_the_handle(programs, rounds, out)?;
-    on_a_module(programs, rounds, out)
+    on_a_module(programs, rounds, out)?;
+    drivers_share(programs, rounds, out)
 }
 
 /// The medians of each case's programs.
@@ -714,6 +717,26 @@ fn on_a_module(programs: &Programs, rounds: usize, out: &mut impl Write) -> Resu
         }
         row.extend(cells[2..].iter().cloned());
         table.row(row);
+    }
+    table.print(out)
+}
+
+/// The ops of a durable append alone, carried out on a module in /dev/shm by cache lines: the driver's share of the table above.
+fn drivers_share(programs: &Programs, rounds: usize, out: &mut impl Write) -> Result<(), Failure> {
+    let Some(path) = programs.carry.filter(|path| path.exists()) else {
+        return skipped("the driver's share", programs.carry, "it is built where libpmem is", out);
+    };
+    let carry = [Program { path, args: &[], variables: &[("PMEM_IS_PMEM_FORCE", "1")] }];
+    let lengths = [64, 1_024];
+    let cases: Vec<(Case, &[Program])> = lengths
+        .map(|bytes| (Case { job: APPEND, bytes, live: 0, words: LARGEST }, &carry[..]))
+        .to_vec();
+    let mut table = Table::new(
+        "The driver's share: the ops of a durable append, carried out on a module in /dev/shm taken for persistent memory.",
+        &["bytes", "driver_carry ns"],
+    );
+    for (bytes, median) in lengths.iter().zip(medians(&cases, rounds)?.into_iter().flatten()) {
+        table.row(vec![grouped(*bytes), ns(median)]);
     }
     table.print(out)
 }
