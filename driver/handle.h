@@ -28,7 +28,8 @@
  * then every record that a force answered durable, with no release of it begun on any module, is listed after the recovery, whichever
  * module is absent; every record listed was completed, with its kind, length and bytes; and the LSNs of the log, released records
  * included, are consecutive. A force counts only if two modules in step have carried out all its ops, also one that has no ops. That is why
- * it answers durable in no other case.
+ * it answers durable in no other case. The theorem's events are the calls of the log but for drivelog_append: that an append may leave no
+ * more than the four calls that it is made of is proved for one module (crates/append), and tested on three.
  *
  * What is not promised. A release that was carried out on two modules may come undone: the third ties and is chosen. A record that is not
  * durable is listed or not, as its module is there. Two power failures inside repairs can leave one readable copy, and 19 from then on.
