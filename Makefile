@@ -194,7 +194,7 @@ bench-export: tool
 	tests/bench/export $(tool) reference/target/plain/plain_export $(ROUNDS)
 
 # drivelog_append has a case as soon as the header declares it.
-has_append = $(shell grep -q 'drivelog_append(' include/drivelog.h && echo -DHAS_APPEND)
+has_append = $(if $(shell grep drivelog_append include/drivelog.h),-DHAS_APPEND)
 worst: lib
 	@tools/need worst gcc python3 valgrind
 	@mkdir -p target/bench
