@@ -116,6 +116,7 @@ static void recover(void)
     too_few = 0;
     if (answer < 0 && drive.module_count == HANDLE_MODULES) {
         report("declined %" PRId64 "\n", -answer);
+        handle_close(&drive); /* with the back end for power failures, what was flushed gets into the files only so */
         exit(0);
     }
     if (answer < 0)
@@ -279,13 +280,14 @@ int main(int count, char **argument)
     if (opened < 0 && drive.module_count != HANDLE_MODULES)
         fail("open", opened);
     recover();
-    /* Some runs fill the log, some keep it nearly empty. */
+    /* Some runs fill the log, some keep it nearly empty. Some append every record. */
     uint64_t releases = below(4);
+    int appends_all = below(3) == 0;
     for (;;) {
         uint64_t choice = below(20);
         if (too_few || (choice == 19 && below(200) == 0))
             recover();
-        else if (choice < 4 && open_count < OPEN_AT_ONCE)
+        else if (choice < 4 && open_count < OPEN_AT_ONCE && !appends_all)
             reserve();
         else if (choice < 6 && open_count < OPEN_AT_ONCE)
             append();
