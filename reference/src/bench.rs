@@ -639,7 +639,7 @@ fn on_a_module(programs: &Programs, rounds: usize, out: &mut impl Write) -> Resu
         &[
             "bytes",
             "driver, msync ns",
-            "driver, libpmem, cache lines ns",
+            "driver, libpmem, past the cache ns",
             "libpmemlog, msync ns",
             "libpmemlog, cache lines ns",
         ],
