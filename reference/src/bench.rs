@@ -684,12 +684,12 @@ fn on_a_module(programs: &Programs, rounds: usize, out: &mut impl Write) -> Resu
         &[
             "bytes",
             "live",
-            "one call, cache lines ns",
+            "one call, past the cache ns",
             "libpmemlog, cache lines ns",
             "ratio",
             "bar",
             "",
-            "four calls, cache lines ns",
+            "four calls, past the cache ns",
             "one call, msync ns",
             "libpmemlog, msync ns",
         ],
@@ -721,7 +721,7 @@ fn on_a_module(programs: &Programs, rounds: usize, out: &mut impl Write) -> Resu
     table.print(out)
 }
 
-/// The ops of a durable append alone, carried out on a module in /dev/shm by cache lines: the driver's share of the table above.
+/// The ops of a durable append alone, carried out on a module in /dev/shm taken for persistent memory: the driver's share of the table above.
 fn drivers_share(programs: &Programs, rounds: usize, out: &mut impl Write) -> Result<(), Failure> {
     let Some(path) = programs.carry.filter(|path| path.exists()) else {
         return skipped("the driver's share", programs.carry, "it is built where libpmem is", out);

@@ -7,7 +7,8 @@
  *                    function `measured` and by nothing else, so that callgrind can count it alone
  *     worst stack    the same in a thread whose stack was painted before; a line each, how many bytes of it are no longer painted
  *
- * A log is set up by the calls themselves. Status 2 and a line if a call is refused that should be granted. Case 0 makes no call. */
+ * A log is set up by the calls themselves. Status 2 and a line if a call is refused that should be granted, or granted though its case says that it
+ * is refused. Case 0 makes no call. */
 
 #define _DEFAULT_SOURCE
 #include "drivelog.h"
@@ -144,6 +145,13 @@ static void heads(uint64_t kind, size_t released)
 static void before_release_vain(void) { heads(DRIVELOG_REPLACEMENT_KIND, 0); }
 static void before_release_named(void) { heads(DRIVELOG_REPLACEMENT_KIND, live); }
 static void before_release_other(void) { heads(1, live); }
+/* The last of them names the head. */
+static void before_release_held(void)
+{
+    heads(DRIVELOG_REPLACEMENT_KIND, 0);
+    images[0][RING_START + pos + HEAD_WORDS] = lsn;
+}
+
 static void before_release_half(void) { heads(DRIVELOG_REPLACEMENT_KIND, live / 2); }
 
 /* `live` records that take all of the ring but the terminator's word, as equal as can be, the first at a ring position, each `less` bytes shorter
@@ -235,6 +243,12 @@ static void before_vet(void)
         put_op(i, DRIVELOG_OP_STORE, RING_START + (end + 1 + i % (ring - used)) % ring, i);
 }
 
+static void before_vet_other(void)
+{
+    before_vet();
+    put_op(length - 1, DRIVELOG_OP_STORE, 0, 0);
+}
+
 static void before_vet_flushes(void)
 {
     before_vet();
@@ -284,9 +298,11 @@ static int64_t copy(void) { return drivelog_copy(LENT, lsn, 0, payload, length, 
 static int64_t copy_odd(void) { return drivelog_copy(LENT, lsn, length > 0, payload, length - (length > 0), REPLY); }
 static int64_t complete(void) { return drivelog_complete(LENT, lsn, REPLY); }
 static int64_t force(void) { return drivelog_force(LENT, lsn, 1, REPLY); }
+static int64_t force_short(void) { return drivelog_force(state, DRIVELOG_STATE_WORDS, IMAGE, ops[0], 6 * live, lsn, 1, REPLY); }
 static int64_t release_head(void) { return drivelog_release(LENT, lsn, REPLY); }
 static int64_t release_all(void) { return drivelog_release_all(LENT, REPLY); }
 static int64_t recover(void) { return drivelog_recover(LENT, REPLY); }
+static int64_t recover_short(void) { return drivelog_recover(state, DRIVELOG_STATE_WORDS, IMAGE, ops[0], 0, REPLY); }
 static int64_t open(void) { return drivelog_open(IMAGE, cursor, DRIVELOG_CURSOR_WORDS, REPLY); }
 static int64_t next(void) { return drivelog_next(IMAGE, cursor, DRIVELOG_CURSOR_WORDS, record, DRIVELOG_RECORD_WORDS, REPLY); }
 static int64_t fetch(void) { return drivelog_fetch(IMAGE, pos, length, output, sizeof output, REPLY); }
@@ -343,10 +359,13 @@ static const struct job jobs[] = {
     {"drivelog_format", format, no_log, WORDS, 0, 0, "w", "whatever state and image hold"},
     {"drivelog_reserve", reserve, before_reserve, WORDS, 255, 1024, "wlb", "255 live records are tested; a record of # bytes, round the ring's end"},
     {"drivelog_reserve", reserve, before_reserve_flat, WORDS, 255, 1024, "wlb", "255 live records are tested; a record of # bytes"},
+    {"drivelog_reserve", reserve, before_reserve, WORDS, 256, 1024, "wlb", "refused 9: 256 live records are tested"},
     {"drivelog_copy", copy, before_copy, WORDS, 256, 1024, "wlb", "256 live records are tested; all # bytes of a record, round the ring's end"},
     {"drivelog_copy", copy_odd, before_copy, WORDS, 256, 1024, "wlb", "256 live records are tested; all # bytes of a record but the first, round the ring's end"},
     {"drivelog_complete", complete, before_complete, WORDS, 256, 1024, "wlb", "256 live records are tested; the check of # bytes, round the ring's end"},
     {"drivelog_force", force, before_force, WORDS, 256, 0, "wl", "256 records, none committed, round the ring's end: 514 ops"},
+    {"drivelog_force", force_short, before_force, WORDS, 256, 0, "wl", "refused 15: 256 records, none committed, and an op buffer that is too short"},
+    {"drivelog_release", release_head, before_release_held, WORDS, 256, 0, "wl", "refused 20: the last of 255 records of kind 600 names the head"},
     {"drivelog_release", release_head, before_release_other, WORDS, 256, 0, "wl", "256 live records are tested; the head goes past 255 released ones, which become free"},
     {"drivelog_release", release_head, before_release_named, WORDS, 256, 0, "wl", "256 live records are tested; the head goes past 255 released ones of kind 600, which become free"},
     {"drivelog_release", release_head, before_release_vain, WORDS, 256, 0, "wl", "256 live records are tested; a holder is searched in vain among 255 committed ones of kind 600"},
@@ -356,13 +375,16 @@ static const struct job jobs[] = {
     {"drivelog_recover", recover, full_odd, WORDS, 256, 0, "wl", "the image full with 256 records, each a byte short of whole words"},
     {"drivelog_recover", recover, full_round, WORDS, 256, 0, "wl", "the image full with 256 records, each a byte short of whole words, one round the ring's end"},
     {"drivelog_recover", recover, full_released, WORDS, 256, 0, "wl", "the image full with 256 released records"},
+    {"drivelog_recover", recover_short, full_round, WORDS, 256, 0, "wl", "refused 15: the image full with 256 records, and no op buffer"},
     {"drivelog_recover_three", recover_three, three_equal, WORDS, 256, 0, "wl", "three full images, equal"},
     {"drivelog_recover_three", recover_three, three_differ, WORDS, 256, 0, "wl", "three full images, two of which differ from the chosen one in their last word: both are repaired"},
     {"drivelog_recover_three", recover_three, three_damaged, WORDS, 256, 0, "wl", "three full images, one damaged in its newest record and one different in its last word: both are repaired"},
     {"drivelog_vet", vet, before_vet, WORDS, 256, 8207, "wlo", "256 live records are tested; 8,207 stores to free words"},
+    {"drivelog_vet", vet, before_vet_other, WORDS, 256, 8207, "wlo", "refused 21: 256 live records are tested; 8,207 stores, the last to a word of the superline"},
     {"drivelog_vet", vet, before_vet_flushes, WORDS, 256, 8207, "wlo", "256 live records are tested; 8,207 flushes"},
     {"drivelog_crash_count", crash_count, stores_of_each, WORDS, 0, MOST_POINTS, "wq", "4,095 stores to as many words, each of the value that is there: for each store all ops before it are looked at"},
     {"drivelog_crash_count", crash_count, stores_of_one, WORDS, 0, MOST_POINTS, "wq", "4,095 stores to one word, each of the value that is there: for each store all ops before it are looked at"},
+    {"drivelog_crash_count", crash_count, stores_of_each, WORDS, 0, 8207, "wq", "refused 22: 8,207 stores, each of a value that is there: for each of the first 4,096 all ops before it are looked at"},
     {"drivelog_crash_count", crash_count, flushes_of_all, WORDS, 0, MOST_POINTS, "wq", "4,095 flushes of all words"},
     {"drivelog_crash_count", crash_count, stores_and_flushes, WORDS, 0, MOST_POINTS, "wq", "4,095 stores to one word, each of the value that is there, and flushes between"},
     {"drivelog_crash_image", crash_image, stores_of_each, WORDS, 0, MOST_POINTS, "wq", "the last crash of 4,095 stores to as many words, each of the value that is there"},
@@ -441,7 +463,7 @@ int main(int arguments, char **argument)
             made.answer = measured(made.make);
         else
             printf("%zu\n", stack_of(&made));
-        need(made.answer);
+        need(strncmp(jobs[number].why, "refused ", 8) == 0 ? -made.answer : made.answer);
     }
     return 0;
 }
