@@ -276,8 +276,8 @@ int64_t drivelog_payload_at(const uint8_t *image, size_t bytes, uint64_t pos, ui
  * type. Where the count is 0 the pointer is not followed and may be null. What is written may overlap nothing else that is lent to
  * the same call. A call keeps nothing and allocates nothing, so calls with different words may run in several threads at once.
  *
- * Stack: a call takes at most 20,480 bytes (20 KB), the recovery of three 32,768; reserve, copy, complete, release and vet take at
- * most 1,024.
+ * Stack: a call takes at most 20,480 bytes (20 KB), the recovery of three 32,768; reserve, copy, complete, force, append, release and
+ * vet take at most 1,024.
  *
  * Time: every call tests the whole state, so that it grows with the live records. A record by reserve, copy, complete, force at
  * every eighth record and a release takes about 0.5 microseconds with no live record and 2 to 3 with 250, plus the CRC-32 of a longer

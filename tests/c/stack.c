@@ -97,10 +97,11 @@ static size_t used_by(struct call *call)
     return STACK - painted;
 }
 
-/* Whether it is one of the four calls that work on one record, or vet, which takes no more. */
+/* Whether it is one of the calls that work on the words in place: of records, or vet. */
 static int on_a_record(const struct call *call)
 {
-    return call->make == reserve || call->make == copy || call->make == complete || call->make == release || call->make == vet;
+    return call->make == reserve || call->make == copy || call->make == complete || call->make == force || call->make == append
+        || call->make == release || call->make == vet;
 }
 
 /* The calls in turn, each held to `most`, or to `most_on_a_record`: the status that they leave. */
