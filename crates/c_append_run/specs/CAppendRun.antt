@@ -1,5 +1,5 @@
--- Demand 3 for a program in C with append among its calls: the events of CRun.antt of c_run, and append, whole or with a
--- power failure in it. The definitions are those of AppendSafe.antt of append, for C.
+-- Demand 3 for a program in C with append among its calls: the events of CRun.antt of c_run, and append, whole or with
+-- a power failure in it. The definitions are those of AppendSafe.antt of append, for C.
 -- Cites CRun.antt of c_run, AppendCall.antt and AppendSafe.antt of append, and WriteCalls.antt of c_write.
 use mathlib.Core.Path.{_≡_}
 use mathlib.Core.List.{List, [], _∷_}
