@@ -8,7 +8,7 @@ reference = reference/target/release/reference
 archive = target/lib/libdrivelog.a
 tool = target/bin/drivelog
 # The crates whose functions are the calls for C: those that read an image's bytes, and those of the log with its state in lent words.
-c_crates = c_query c_read c_write c_three c_vet c_crash
+c_crates = c_query c_read c_write c_append c_three c_vet c_crash
 # What the archive is made of: the files of these crates and of all that they stand on.
 c_sources := $(shell tools/sources $(c_crates))
 cli_c = $(wildcard cli/*.c driver/*.c)
@@ -25,7 +25,7 @@ driver_archive = target/install/libdrivelog-driver.a
 
 .PHONY: help demo list load lib tool prove test programs reference shared install uninstall clean
 .PHONY: compare compare-calls compare-c compare-why compare-orphans compare-load crash crash-three loss cells kill bench bench-c
-.PHONY: bench-export speed
+.PHONY: bench-export speed worst
 
 help:
 	@echo "make demo          a log in a file, whose writer is killed in the middle, recovered and listed; then one on three modules"
@@ -37,7 +37,7 @@ help:
 	@echo "make list          the records of a sample module, by loglist"
 	@echo "make load          an image made from a sample listing by logload, and listed again"
 	@echo "make compare       all five comparisons with the reference, SCRIPTS=1000 SEED=1:"
-	@echo "  compare-calls    the eleven calls, on random scripts, and loglist on random images"
+	@echo "  compare-calls    the eleven calls and append, on random scripts, and loglist on random images"
 	@echo "  compare-c        the calls for C, on images and scripts"
 	@echo "  compare-why      logwhy"
 	@echo "  compare-orphans  logorphans"
@@ -49,6 +49,7 @@ help:
 	@echo "make kill          processes killed and modules whose power fails, on one module and on three, SECONDS=60 SEED=1"
 	@echo "make bench         how long the calls take beside plain Rust, zlib and libpmemlog, ROUNDS=31"
 	@echo "make bench-export  how long drivelog export takes for 1,000 files, beside plain Rust, ROUNDS=31"
+	@echo "make worst         what each call for C costs at worst: instructions, by callgrind, and stack"
 	@echo "make speed         how long loglist takes for a full image, beside one in plain Rust"
 	@echo "make clean         removes target/ and reference/target/, and with them what was proved"
 
@@ -183,13 +184,22 @@ bench: programs bench-c
 	tools/rt check bench
 	cd reference && cargo build --profile plain --offline --quiet --bin plain_bench
 	$(reference) bench target/bin/bench reference/target/plain/plain_bench target/bench/crc target/bench/pmemlog \
-	  --calls target/bench/calls --append target/bench/append --append-pmem target/bench/append-pmem --three target/bench/three \
+	  --calls target/bench/calls --append target/bench/append --append-pmem target/bench/append-pmem --carry target/bench/carry \
+	  --three target/bench/three \
 	  --vet target/bench/vet --crashes target/bench/crashes --rounds $(ROUNDS)
 
 bench-export: tool
 	@tools/need bench-export cargo python3
 	cd reference && cargo build --profile plain --offline --quiet --bin plain_export
 	tests/bench/export $(tool) reference/target/plain/plain_export $(ROUNDS)
+
+# drivelog_append has a case as soon as the header declares it.
+has_append = $(if $(shell grep drivelog_append include/drivelog.h),-DHAS_APPEND)
+worst: lib
+	@tools/need worst gcc python3 valgrind
+	@mkdir -p target/bench
+	@gcc -std=c11 -O2 -Wall -Wextra -Werror -Iinclude $(has_append) -o target/bench/worst tests/bench/worst.c $(archive) -pthread
+	@tests/bench/worst target/bench/worst
 
 append_c = -std=c11 -O2 -Wall -Wextra -Iinclude -Idriver
 append_from = tests/bench/append.c driver/driver.c driver/handle.c $(archive)
@@ -198,7 +208,7 @@ bench-c:
 	@tools/need bench gcc
 	mkdir -p target/bench
 	rm -f target/bench/crc target/bench/calls target/bench/append target/bench/append-pmem target/bench/pmemlog target/bench/three target/bench/vet \
-	  target/bench/crashes
+	  target/bench/crashes target/bench/carry
 	if $(has_zlib); then gcc -O2 -Wall -Wextra -o target/bench/crc tests/bench/crc.c -lz; \
 	else echo "zlib.h is not installed (Debian: zlib1g-dev), so zlib's CRC-32 and the calls for C are left out"; fi
 	if [ -e $(archive) ] && $(has_zlib); then \
@@ -209,5 +219,7 @@ bench-c:
 	  gcc $(append_c) -o target/bench/append $(append_from) -lz; fi
 	if [ -e $(archive) ] && $(has_zlib) && pkg-config --exists libpmem; then \
 	  gcc $(append_c) -DDRIVER_PMEM -o target/bench/append-pmem $(append_from) -lz $$(pkg-config --cflags --libs libpmem); fi
+	if $(has_zlib) && pkg-config --exists libpmem; then \
+	  gcc $(append_c) -DDRIVER_PMEM -o target/bench/carry tests/bench/carry.c driver/driver.c -lz $$(pkg-config --cflags --libs libpmem); fi
 	if pkg-config --exists libpmemlog; then \
 	  gcc -O2 -Wall -Wextra -o target/bench/pmemlog tests/bench/pmemlog.c $$(pkg-config --cflags --libs libpmemlog); fi

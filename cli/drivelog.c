@@ -26,7 +26,7 @@ uint64_t file_bytes[HANDLE_MODULES];
 /* ---------------------------------------------------------------- the commands */
 
 /* Options that a command takes. Every command takes --help. */
-enum { TAKES_WAIT = 1, TAKES_FREQUENCY = 2, TAKES_SHAPE = 4, TAKES_KIND = 8, TAKES_VERBOSE = 16 };
+enum { TAKES_WAIT = 1, TAKES_FREQUENCY = 2, TAKES_SHAPE = 4, TAKES_KIND = 8, TAKES_VERBOSE = 16, TAKES_IMAGE = 32 };
 enum { MOST_ARGUMENTS = 3 };
 
 /* What the command is given: its arguments, FILE first, and options. `given` has all arguments, also those after the last that has a name
@@ -34,7 +34,8 @@ enum { MOST_ARGUMENTS = 3 };
 static const char *argument[MOST_ARGUMENTS];
 static const char **given;
 static int given_count;
-static uint64_t frequency = 1, kind_asked;
+static uint64_t frequency = 1, kind_asked, crash_asked;
+static const char *image_file; /* where the image of that crash goes, null if none is asked for */
 static enum shape shape_asked;
 static int verbose;
 
@@ -76,6 +77,11 @@ static int run_orphans(const struct command *command) { return (void)command, or
 static int run_export(const struct command *command) { return (void)command, export_files(given, given_count, shape_asked, kind_asked); }
 static int run_check(const struct command *command) { return (void)command, check_files(given, given_count, verbose); }
 static int run_draw(const struct command *command) { return (void)command, draw_files(given, given_count); }
+static int run_cuts(const struct command *command)
+{
+    (void)command;
+    return image_file == NULL ? cuts(argument[1], verbose) : write_cut(argument[1], crash_asked, image_file);
+}
 static int run_info(const struct command *command) { return (void)command, info(); }
 static int run_format(const struct command *command) { return format(number(command, 1)); }
 static int run_load(const struct command *command) { return (void)command, load(argument[0], argument[1]); }
@@ -114,6 +120,14 @@ static const struct command commands[] = {
      "the ring as a picture in SVG: head, records by kind, released ones, end, free words,\n"
      "      whole records after the end, epochs as shades. Two or three files are copies of one\n"
      "      log, drawn beside each other with what differs. '-' is standard input"},
+    {"cuts", {"FILE", "OPS"}, TAKES_VERBOSE | TAKES_IMAGE | TAKES_WAIT, run_cuts,
+     "every crash while these ops are carried out on a module that holds FILE: each is\n"
+     "      recovered, on a copy, and listed. OPS has the words of an op buffer, 8 bytes each,\n"
+     "      least significant first, three an op: 1 WORD VALUE stores, 2 WORD COUNT flushes.\n"
+     "      '-' is standard input. What the recoveries find, a line each: how many crashes\n"
+     "      leave it, the first one's number, how many ops are done there, and the LSNs. -v has\n"
+     "      the records too. --image N OUT makes a new file of what crash N leaves, and no\n"
+     "      table. At most 4096 crashes. Status 1 if a recovery is refused"},
     {"format", {"FILE", "WORDS"}, 0, run_format,
      "a new file with an empty log, or three, 40 to 8192 words of 8 bytes. A file gets its\n"
      "      name when it is whole; one that is there already is not touched"},
@@ -141,7 +155,7 @@ static const struct command commands[] = {
     {"release-all", {"FILE"}, TAKES_WAIT, run_release_all, "gives all records back"},
     {"recover", {"FILE"}, TAKES_WAIT, run_recover, "the recovery alone"},
 };
-enum { COMMANDS = sizeof commands / sizeof commands[0], READING_COMMANDS = 7 };
+enum { COMMANDS = sizeof commands / sizeof commands[0], READING_COMMANDS = 8 };
 
 /* ---------------------------------------------------------------- help */
 
@@ -154,6 +168,7 @@ static void say_command(const struct command *command)
                                                                        {TAKES_SHAPE, " [--csv | --json | --text]"},
                                                                        {TAKES_KIND, " [--kind K]"},
                                                                        {TAKES_VERBOSE, " [-v]"},
+                                                                       {TAKES_IMAGE, " [--image N OUT]"},
                                                                        {TAKES_WAIT, " [--wait SECONDS]"}};
     for (size_t i = 0; i < sizeof options / sizeof options[0]; i++)
         if (command->options & options[i].option)
@@ -191,14 +206,15 @@ static const char examples[] =
     "  drivelog format a.log,b.log,c.log 1024\n"
     "  drivelog check -v copies/*.log\n"
     "  drivelog export --csv copies/*.log > copies.csv\n"
-    "  drivelog draw module.log > module.svg\n";
+    "  drivelog draw module.log > module.svg\n"
+    "  drivelog cuts module.log force.ops\n";
 
 /* The refusals that a command can meet; the message itself names the number, the record or the size. */
 static void say_refusals(void)
 {
     static const int numbers[] = {DRIVELOG_IMAGE_SIZE,    DRIVELOG_ARGUMENT,   DRIVELOG_SUPERLINE, DRIVELOG_NOT_LIVE, DRIVELOG_WRONG_STAGE,
                                   DRIVELOG_NUMBERS_SPENT, DRIVELOG_TABLE_FULL, DRIVELOG_NO_ROOM,   DRIVELOG_DAMAGED,  DRIVELOG_TOO_MANY,
-                                  DRIVELOG_TOO_FEW_COPIES};
+                                  DRIVELOG_TOO_FEW_COPIES, DRIVELOG_BAD_OP,   DRIVELOG_TOO_MANY_CRASHES, DRIVELOG_NO_SUCH_CRASH};
     puts("\nrefused:");
     for (size_t i = 0; i < sizeof numbers / sizeof numbers[0]; i++)
         printf("  %-2d %s\n", numbers[i], drivelog_refusal_text(numbers[i]));
@@ -253,7 +269,7 @@ static const struct command *command_called(const char *name)
 struct line {
     const char **plain; /* the command and its arguments */
     int plain_count;
-    const char *wait, *frequency, *kind, *shape;
+    const char *wait, *frequency, *kind, *shape, *image, *image_file;
     int help, version, verbose;
 };
 
@@ -268,6 +284,15 @@ static void take_value(const char **value, const char *name, const char *rest, c
         *value = **at;
     else
         usage("%s needs a number", name);
+}
+
+/* An option with a number and a file. */
+static void take_image(struct line *line, const char *rest, char ***at)
+{
+    take_value(&line->image, "--image", rest, at);
+    if (*++*at == NULL)
+        usage("--image needs a number and a file");
+    line->image_file = **at;
 }
 
 static void take_shape(const char **shape, const char *word)
@@ -294,6 +319,8 @@ static void take_option(struct line *line, char ***at)
         take_value(&line->kind, "--kind", word + 6, at);
     else if (strcmp(word, "--wait") == 0 || strncmp(word, "--wait=", 7) == 0)
         take_value(&line->wait, "--wait", word + 6, at);
+    else if (strcmp(word, "--image") == 0 || strncmp(word, "--image=", 8) == 0)
+        take_image(line, word + 7, at);
     else
         usage("there is no option '%s'; after -- an argument may begin with '-'", word);
 }
@@ -305,7 +332,7 @@ static struct line sort_words(int count, char **words_of_line)
     plain = calloc((size_t)count + MOST_ARGUMENTS + 1, sizeof *plain);
     if (plain == NULL)
         usage("the command line is too long");
-    struct line line = {plain, 0, NULL, NULL, NULL, NULL, 0, 0, 0};
+    struct line line = {plain, 0, NULL, NULL, NULL, NULL, NULL, NULL, 0, 0, 0};
     for (char **at = words_of_line; *at != NULL; at++) {
         if (options && strcmp(*at, "--") == 0)
             options = 0;
@@ -373,11 +400,14 @@ static void take_arguments(const struct command *command, const struct line *lin
     need_option(command, TAKES_SHAPE, line->shape, line->shape != NULL);
     need_option(command, TAKES_KIND, "--kind", line->kind != NULL);
     need_option(command, TAKES_VERBOSE, "-v", line->verbose);
+    need_option(command, TAKES_IMAGE, "--image", line->image != NULL);
     verbose = line->verbose;
     shape_asked = line->shape == NULL || line->shape[2] == 't' ? SHAPE_TEXT : line->shape[2] == 'c' ? SHAPE_CSV : SHAPE_JSON;
     kind_asked = line->kind == NULL ? 0 : option_number(line->kind, "--kind", 1);
     if (kind_asked > DRIVELOG_MAX_KIND)
         usage("--kind is 1 to %d, and '%s' is not", DRIVELOG_MAX_KIND, line->kind);
+    crash_asked = line->image == NULL ? 0 : option_number(line->image, "--image", 0);
+    image_file = line->image_file;
     wait_seconds = line->wait == NULL ? 0 : option_number(line->wait, "--wait", 0);
     frequency = line->frequency == NULL ? 1 : option_number(line->frequency, "-f", 1);
     name_files(argument[0]);

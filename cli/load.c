@@ -33,18 +33,26 @@ static const char *program(void)
     exit(REFUSED);
 }
 
-static int open_listing(const char *listing)
+_Noreturn void fail_to_read(const char *what, const char *name)
+{
+    fprintf(stderr, "drivelog: the %s %s cannot be read: %s\n", what, name, strerror(errno));
+    exit(REFUSED);
+}
+
+int open_input(const char *what, const char *name)
 {
     struct stat about;
-    int file = strcmp(listing, "-") == 0 ? STDIN_FILENO : open(listing, O_RDONLY | O_CLOEXEC);
+    int file = strcmp(name, "-") == 0 ? STDIN_FILENO : open(name, O_RDONLY | O_CLOEXEC);
     if (file >= 0 && fstat(file, &about) == 0 && S_ISDIR(about.st_mode)) {
         errno = EISDIR;
-        file = -1;
+        fail_to_read(what, name);
     }
-    if (file < 0 || fcntl(file, F_GETFL) < 0 || (fcntl(file, F_GETFL) & O_ACCMODE) == O_WRONLY) {
-        fprintf(stderr, "drivelog: the listing %s cannot be read: %s\n", listing, strerror(file < 0 ? errno : EBADF));
-        exit(REFUSED);
+    if (file >= 0 && (fcntl(file, F_GETFL) < 0 || (fcntl(file, F_GETFL) & O_ACCMODE) == O_WRONLY)) {
+        errno = EBADF;
+        fail_to_read(what, name);
     }
+    if (file < 0)
+        fail_to_read(what, name);
     return file;
 }
 
@@ -92,8 +100,7 @@ static _Noreturn void refuse_listing(uint64_t number)
     fail(text);
 }
 
-/* Ops that store every word and then make all of them safe. */
-static size_t put_ops(uint64_t *ops, const uint64_t *from, size_t count)
+size_t put_stores(uint64_t *ops, const uint64_t *from, size_t count)
 {
     for (size_t i = 0; i < count; i++) {
         uint64_t *op = ops + DRIVELOG_OP_WORDS * i;
@@ -116,7 +123,7 @@ int load(const char *listing, const char *name)
     if (path_count != 1)
         fail("load makes one module; format and write make three");
     const char *logload = program();
-    size_t length = answer_of(logload, open_listing(listing), (char *)loaded, sizeof loaded);
+    size_t length = answer_of(logload, open_input("listing", listing), (char *)loaded, sizeof loaded);
     const char *text = (const char *)loaded;
     size_t heading = strlen("refused ");
     if (length > heading && memcmp(text, "refused ", heading) == 0 && read_number(text + heading, length - heading, &number) > 0)
@@ -129,7 +136,7 @@ int load(const char *listing, const char *name)
     }
     if (found != 0)
         fail("logload gave no image");
-    struct driver_module *module = driver_make(name, loaded_words, ops, put_ops(ops, loaded, loaded_words));
+    struct driver_module *module = driver_make(name, loaded_words, ops, put_stores(ops, loaded, loaded_words));
     if (module == NULL)
         fail(errno == EEXIST ? "it is there already; load makes a new file" : strerror(errno));
     driver_close(module);

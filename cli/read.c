@@ -153,6 +153,14 @@ static int end_of_listing(int64_t found)
     return REFUSED;
 }
 
+void say_record(uint64_t lsn, uint64_t kind, uint64_t length, const uint8_t *payload)
+{
+    printf("%" PRIu64 " %" PRIu64 " %" PRIu64 " ", lsn, kind, length);
+    for (uint64_t i = 0; i < length; i++)
+        printf("%02x", payload[i]);
+    puts(length == 0 ? "-" : "");
+}
+
 int list(void)
 {
     uint64_t cursor[DRIVELOG_CURSOR_WORDS], record[DRIVELOG_RECORD_WORDS];
@@ -166,10 +174,7 @@ int list(void)
             continue;
         uint64_t length = record[DRIVELOG_RECORD_LENGTH];
         granted(drivelog_fetch(IMAGE, record[DRIVELOG_RECORD_POS], length, payload, sizeof payload, REPLY));
-        printf("%" PRIu64 " %" PRIu64 " %" PRIu64 " ", record[DRIVELOG_RECORD_LSN], record[DRIVELOG_RECORD_KIND], length);
-        for (uint64_t i = 0; i < length; i++)
-            printf("%02x", payload[i]);
-        puts(length == 0 ? "-" : "");
+        say_record(record[DRIVELOG_RECORD_LSN], record[DRIVELOG_RECORD_KIND], length, payload);
     }
     return end_of_listing(found);
 }

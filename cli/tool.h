@@ -1,5 +1,5 @@
 /* tool.h: what the files of the command-line tool share. drivelog.c has the command line, message.c what goes wrong, in words; read.c,
- * export.c, check.c, draw.c, write.c and load.c have the commands. */
+ * export.c, check.c, draw.c, cuts.c, write.c and load.c have the commands. */
 
 #ifndef TOOL_H
 #define TOOL_H
@@ -73,6 +73,8 @@ _Noreturn void refuse(int number);
 void read_images(void);
 int try_read_images(void);
 int64_t next(uint64_t *cursor, uint64_t *record);
+/* A record as a line of a listing. */
+void say_record(uint64_t lsn, uint64_t kind, uint64_t length, const uint8_t *payload);
 /* Whether to try once more to lock the files: errno says that another process has one, and there is time left. */
 int try_again(void);
 
@@ -80,7 +82,7 @@ int list(void);
 int orphans(void);
 int info(void);
 
-/* ---------------------------------------------------------------- export.c, check.c, draw.c, load.c */
+/* ---------------------------------------------------------------- export.c, check.c, draw.c, cuts.c, load.c */
 
 enum shape { SHAPE_TEXT, SHAPE_CSV, SHAPE_JSON };
 /* The records of so many files, all kinds for kind 0. */
@@ -88,7 +90,16 @@ int export_files(const char *const *names, int count, enum shape shape, uint64_t
 int check_files(const char *const *names, int count, int verbose);
 int why(const char *name, const uint64_t *lsns, int count);
 int draw_files(const char *const *names, int count);
+/* What every crash of the ops in a file leaves of the module; or the image that one of them leaves, as a new file. */
+int cuts(const char *ops_name, int verbose);
+int write_cut(const char *ops_name, uint64_t number, const char *output);
 int load(const char *listing, const char *name);
+
+/* The descriptor of a file, or standard input for "-", to be read; `what` says what it holds. The other one ends the program by errno. */
+int open_input(const char *what, const char *name);
+_Noreturn void fail_to_read(const char *what, const char *name);
+/* Puts ops that store every word and then make all of them safe: how many. */
+size_t put_stores(uint64_t *ops, const uint64_t *from, size_t count);
 
 /* ---------------------------------------------------------------- write.c */
 

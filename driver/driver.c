@@ -1,5 +1,5 @@
 /* driver.c: see driver.h for what it owes. Two back ends: a memory-mapped file with msync for each flush, always there; and libpmem
- * (cc -DDRIVER_PMEM .. -lpmem), which flushes cache lines where the file is on persistent memory, and calls msync where not. The tests
+ * (cc -DDRIVER_PMEM .. -lpmem), which stores past the cache where the file is on persistent memory, and calls msync where not. The tests
  * bring a third one, tests/kill/power.h (-DDRIVER_BACK_END). A back end is four functions: map, unmap, store, flush. It is C11, and
  * C++11 too. */
 
@@ -31,20 +31,41 @@ enum { STORE = 1, FLUSH = 2, OP_WORDS = 3 };
 #else
 
 /* One store of 64 bits, which no other store of this program passes. */
-static void store(struct driver_module *module, uint64_t word, uint64_t value)
+static void store_in_cache(struct driver_module *module, uint64_t word, uint64_t value)
 {
     __atomic_store_n((uint64_t *)&module->words[word], value, __ATOMIC_RELEASE);
 }
 
 #if defined DRIVER_PMEM
 #include <libpmem.h>
+#if defined __x86_64__
+#include <emmintrin.h>
+#endif
+
+/* On persistent memory x86-64 stores past the cache, as libpmem itself copies: the next fence makes such stores safe, with no flush of their
+ * cache lines, which takes longer than all else (docs/SPEED.md). So no line of the module is dirty but by what was stored before it was
+ * opened, and map flushes that. */
 
 /* libpmem takes a path. This one names the file that is open and locked, whatever its own name means by now. */
 static const uint64_t *map(struct driver_module *module)
 {
     char path[32];
     snprintf(path, sizeof path, "/proc/self/fd/%d", module->file);
-    return (const uint64_t *)pmem_map_file(path, 0, 0, 0, NULL, &module->flushes_lines);
+    const uint64_t *words = (const uint64_t *)pmem_map_file(path, 0, 0, 0, NULL, &module->flushes_lines);
+    if (words != NULL && module->flushes_lines)
+        pmem_persist(words, 8 * module->count);
+    return words;
+}
+
+static void store(struct driver_module *module, uint64_t word, uint64_t value)
+{
+#if defined __x86_64__
+    if (module->flushes_lines) {
+        _mm_stream_si64((long long *)&module->words[word], (long long)value);
+        return;
+    }
+#endif
+    store_in_cache(module, word, value);
 }
 
 static void unmap(struct driver_module *module) { pmem_unmap((void *)module->words, 8 * module->count); }
@@ -53,12 +74,16 @@ static int flush(struct driver_module *module, uint64_t first, uint64_t count)
 {
     if (!module->flushes_lines)
         return pmem_msync(&module->words[first], 8 * count);
+#if !defined __x86_64__
     pmem_flush(&module->words[first], 8 * count);
+#endif
     pmem_drain();
     return 0;
 }
 
 #else
+
+static void store(struct driver_module *module, uint64_t word, uint64_t value) { store_in_cache(module, word, value); }
 
 static const uint64_t *map(struct driver_module *module)
 {

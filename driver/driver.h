@@ -31,7 +31,7 @@ struct driver_module {
     const uint64_t *words; /* the module's words, to be read; only driver_carry alters them */
     size_t count;          /* how many */
     int file;              /* locked as long as the module is open; never a standard stream's descriptor, 0 to 2 */
-    int flushes_lines;     /* libpmem only: cache lines are flushed, and no msync is needed */
+    int flushes_lines;     /* libpmem only: the file is on persistent memory, and no msync is needed */
 };
 
 struct driver_module *driver_open(const char *path);

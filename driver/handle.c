@@ -207,7 +207,7 @@ static void read_module(struct handle *h, size_t index)
 
 int64_t handle_recover(struct handle *h)
 {
-    h->durable_lsn = h->open_count = h->last_lsn = 0;
+    h->durable_lsn = 0;
     for (size_t i = 0; i < h->module_count; i++)
         read_module(h, i);
     int64_t answer = handle_choose(h);
@@ -234,12 +234,7 @@ void handle_close(struct handle *h)
 
 int64_t handle_reserve(struct handle *h, uint64_t kind, uint64_t length)
 {
-    int64_t answer = MADE(h, drivelog_reserve(LENT(h), kind, length, REPLY(h)));
-    if (answer >= 0) {
-        h->open_count++;
-        h->last_lsn = (uint64_t)answer;
-    }
-    return answer;
+    return MADE(h, drivelog_reserve(LENT(h), kind, length, REPLY(h)));
 }
 
 int64_t handle_copy(struct handle *h, uint64_t lsn, uint64_t offset, const void *bytes, size_t count)
@@ -247,51 +242,38 @@ int64_t handle_copy(struct handle *h, uint64_t lsn, uint64_t offset, const void 
     return MADE(h, drivelog_copy(LENT(h), lsn, offset, (const uint8_t *)bytes, count, REPLY(h)));
 }
 
-int64_t handle_complete(struct handle *h, uint64_t lsn)
+int64_t handle_complete(struct handle *h, uint64_t lsn) { return MADE(h, drivelog_complete(LENT(h), lsn, REPLY(h))); }
+
+/* What a force, or that of an append, answers once its ops are carried out: `durable`, if the modules that have them are still there. */
+static int64_t forced(struct handle *h, int64_t answer, uint64_t lsn, int64_t durable)
 {
-    int64_t answer = MADE(h, drivelog_complete(LENT(h), lsn, REPLY(h)));
-    h->open_count -= answer >= 0;
-    return answer;
+    for (size_t i = 0; answer >= 0 && i < h->module_count; i++)
+        if (h->modules[i].in_step && driver_check(h->modules[i].module, h->modules[i].path) != 0)
+            put_out_by_system(&h->modules[i]);
+    if (!enough(h))
+        return -HANDLE_NOT_DURABLE;
+    if (lsn > h->durable_lsn)
+        h->durable_lsn = lsn;
+    return durable;
 }
 
 int64_t handle_force(struct handle *h, uint64_t lsn, uint64_t frequency)
 {
     int64_t answer = MADE(h, drivelog_force(LENT(h), lsn, frequency, REPLY(h)));
-    for (size_t i = 0; answer == 1 && i < h->module_count; i++)
-        if (h->modules[i].in_step && driver_check(h->modules[i].module, h->modules[i].path) != 0)
-            put_out_by_system(&h->modules[i]);
-    if (answer == -HANDLE_TOO_FEW || (answer == 1 && !enough(h)))
-        return -HANDLE_NOT_DURABLE;
-    if (answer == 1 && lsn > h->durable_lsn)
-        h->durable_lsn = lsn;
-    return answer;
+    return answer == 1 || answer == -HANDLE_TOO_FEW ? forced(h, answer, lsn, 1) : answer;
+}
+
+int64_t handle_append(struct handle *h, uint64_t kind, const void *bytes, size_t count, uint64_t frequency)
+{
+    if (!enough(h))
+        return -HANDLE_TOO_FEW;
+    int64_t lsn = drivelog_append(LENT(h), kind, (const uint8_t *)bytes, count, frequency, REPLY(h)), answer = carried(h, lsn);
+    return lsn >= 0 && h->reply[DRIVELOG_REPLY_SECOND] == 1 ? forced(h, answer, (uint64_t)lsn, lsn) : answer;
 }
 
 int64_t handle_release(struct handle *h, uint64_t lsn) { return MADE(h, drivelog_release(LENT(h), lsn, REPLY(h))); }
 
 int64_t handle_release_all(struct handle *h) { return MADE(h, drivelog_release_all(LENT(h), REPLY(h))); }
-
-/* The one call, made of four. A refusal of its force would come too late, so what the force would refuse is asked first. */
-static int64_t append(struct handle *h, uint64_t kind, const void *bytes, size_t count, uint64_t frequency)
-{
-    if (frequency == 0)
-        return -DRIVELOG_ARGUMENT;
-    if (h->open_count > 0) /* refused, and not deferred: a record up to the last one is open */
-        return MADE(h, drivelog_force(LENT(h), h->last_lsn, 1, REPLY(h)));
-    int64_t lsn = handle_reserve(h, kind, count), answer = lsn;
-    if (answer >= 0)
-        answer = handle_copy(h, (uint64_t)lsn, 0, bytes, count);
-    if (answer >= 0)
-        answer = handle_complete(h, (uint64_t)lsn);
-    if (answer >= 0)
-        answer = handle_force(h, (uint64_t)lsn, frequency);
-    return answer < 0 ? answer : lsn;
-}
-
-int64_t handle_append(struct handle *h, uint64_t kind, const void *bytes, size_t count, uint64_t frequency)
-{
-    return append(h, kind, bytes, count, frequency);
-}
 
 int64_t handle_check(struct handle *h)
 {

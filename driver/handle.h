@@ -28,7 +28,8 @@
  * then every record that a force answered durable, with no release of it begun on any module, is listed after the recovery, whichever
  * module is absent; every record listed was completed, with its kind, length and bytes; and the LSNs of the log, released records
  * included, are consecutive. A force counts only if two modules in step have carried out all its ops, also one that has no ops. That is why
- * it answers durable in no other case.
+ * it answers durable in no other case. The theorem's events are the calls of the log but for drivelog_append: that an append may leave no
+ * more than the four calls that it is made of is proved for one module (crates/append), and tested on three.
  *
  * What is not promised. A release that was carried out on two modules may come undone: the third ties and is chosen. A record that is not
  * durable is listed or not, as its module is there. Two power failures inside repairs can leave one readable copy, and 19 from then on.
@@ -82,8 +83,6 @@ struct handle {
     size_t words;         /* of each module */
     size_t chosen;        /* images[chosen] is the working image */
     uint64_t durable_lsn; /* since the recovery a force answered durable for every record up to this LSN; 0: none */
-    uint64_t open_count;  /* records reserved and not complete */
-    uint64_t last_lsn;    /* reserved last since the recovery */
     uint64_t cursor[DRIVELOG_CURSOR_WORDS];
     uint64_t state[DRIVELOG_STATE_WORDS];
     uint64_t reply[DRIVELOG_THREE_REPLY_WORDS];
@@ -124,12 +123,14 @@ int64_t handle_recover(struct handle *h);
 
 int64_t handle_append(struct handle *h, uint64_t kind, const void *bytes, size_t count, uint64_t frequency);
 /*
-     One record, reserved, copied, complete, and forced with a frequency: with 1 it is durable, with more it is deferred, as durable_lsn
-   tells, until a multiple of the frequency is among the LSNs.
+     drivelog_append, with its ops carried out on each module in step: one record, complete, and forced with a frequency. With 1 it is
+   durable, with more it is deferred, as durable_lsn tells, until a multiple of the frequency is among the LSNs. Where it is durable, it is
+   looked for the modules' paths as in handle_force.
 
-     Returns its LSN; or what drivelog_reserve refuses, -DRIVELOG_ARGUMENT (frequency 0 too) or -DRIVELOG_UNFINISHED (an older record is
-   open, and no force can pass it; the detail is its LSN), and then nothing is changed; or -HANDLE_TOO_FEW or -HANDLE_NOT_DURABLE: fewer
-   modules than needed have it, and the next recovery lists it or not. No other refusal can come once the record is reserved.
+     Returns its LSN; or what drivelog_append refuses, and then nothing is changed: -DRIVELOG_UNFINISHED only where the record would be
+   durable and an older one is open, whose LSN is the detail; or -HANDLE_TOO_FEW: if too few were in step before it, nothing was done, and
+   if it was to be deferred and made them too few, the next recovery lists it or not; or -HANDLE_NOT_DURABLE: it was to be durable, fewer
+   modules than needed have it, and the next recovery lists it or not.
 */
 
 int64_t handle_reserve(struct handle *h, uint64_t kind, uint64_t length);

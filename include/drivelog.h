@@ -47,10 +47,10 @@ enum drivelog_refusal {
     DRIVELOG_WRONG_STAGE = 6,     /* the record is not open, as copy and complete need it, or not committed, as release does */
     DRIVELOG_HELD = 20,           /* release: a later committed record of kind 600 names the record; detail: the lowest such LSN */
     DRIVELOG_BEYOND_LENGTH = 7,   /* the bytes do not fit the record from the offset on */
-    DRIVELOG_NUMBERS_SPENT = 8,   /* no LSN is left to reserve, or no epoch to recover with */
+    DRIVELOG_NUMBERS_SPENT = 8,   /* no LSN is left for a record, or no epoch to recover with */
     DRIVELOG_TABLE_FULL = 9,      /* 256 records are live */
     DRIVELOG_NO_ROOM = 10,        /* the log has no room for the record */
-    DRIVELOG_UNFINISHED = 11,     /* a record is still open (force), or not committed (release all); detail: its LSN */
+    DRIVELOG_UNFINISHED = 11,     /* a record is still open (force, append), or not committed (release all); detail: its LSN */
     DRIVELOG_TOO_MANY = 13,       /* more than 256 records before the end; detail: the LSN of the first too many */
     DRIVELOG_DAMAGED = 12,        /* a record is damaged; the whole list is refused, also what is before the damage; detail: its LSN */
     DRIVELOG_NO_SUCH_RECORD = 16, /* index is not below the number of listed records */
@@ -270,17 +270,17 @@ int64_t drivelog_payload_at(const uint8_t *image, size_t bytes, uint64_t pos, ui
  *
  * Every call answers for every input, as its definition in crates/ says (docs/PROOF.md has the map); that is proved, and so is what a
  * crash leaves of a log that these calls format and write, each lent the state's words and the image that the one before left, and after
- * a crash any words. Counts are of words, not bytes; an image's words are little-endian in bytes.
+ * a crash any words; with drivelog_append among them that is proved of the definitions. Counts are of words, not bytes; an image's words are little-endian in bytes.
  *
  * Memory: each pointer is to as many words as the count after it says, `bytes` to `count` bytes. They need the alignment of their
  * type. Where the count is 0 the pointer is not followed and may be null. What is written may overlap nothing else that is lent to
  * the same call. A call keeps nothing and allocates nothing, so calls with different words may run in several threads at once.
  *
- * Stack: a call takes at most 20,480 bytes (20 KB), the recovery of three 32,768; reserve, copy, complete, release and vet take at
- * most 1,024.
+ * Stack: a call takes at most 20,480 bytes (20 KB), the recovery of three 32,768; reserve, copy, complete, force, append, release and
+ * vet take at most 1,024.
  *
- * Time: every call tests the whole state, so that it grows with the live records. An append, that is reserve, copy, complete, force at
- * every eighth record and a release, takes about 0.5 microseconds with no live record and 2 to 3 with 250, plus the CRC-32 of a longer
+ * Time: every call tests the whole state, so that it grows with the live records. A record by reserve, copy, complete, force at
+ * every eighth record and a release takes about 0.5 microseconds with no live record and 2 to 3 with 250, plus the CRC-32 of a longer
  * payload and what carrying the ops out takes (docs/SPEED.md).
  */
 
@@ -295,8 +295,8 @@ enum drivelog_reply {
     DRIVELOG_REPLY_NUMBER = 0, /* the refusal's number, 0 if granted */
     DRIVELOG_REPLY_DETAIL = 1, /* its detail, 0 if it has none */
     DRIVELOG_REPLY_OPS = 2,    /* how many ops the call put into the op buffer, 0 if it declines */
-    DRIVELOG_REPLY_SECOND = 3  /* a second value: the ring position (reserve), the end's LSN (next), the test that a damaged record fails
-                                  (enum drivelog_test, with DRIVELOG_DAMAGED), else 0 */
+    DRIVELOG_REPLY_SECOND = 3  /* a second value: the ring position (reserve), 1 if the record is durable (append), the end's LSN (next),
+                                  the test that a damaged record fails (enum drivelog_test, with DRIVELOG_DAMAGED), else 0 */
 };
 
 enum drivelog_words {
@@ -304,7 +304,8 @@ enum drivelog_words {
     DRIVELOG_REPLY_WORDS = 4,
     DRIVELOG_CURSOR_WORDS = 6,
     DRIVELOG_RECORD_WORDS = 6,
-    DRIVELOG_MAX_OPS = 514, /* ops that one call puts at most: a force of 256 records that goes round the ring's end */
+    DRIVELOG_MAX_OPS = 646, /* ops that one call puts at most: an append of 1,024 bytes, 132 stores, with the force of 256 records, 514
+                               ops where it goes round the ring's end */
     DRIVELOG_OPS_WORDS = 3 * DRIVELOG_MAX_OPS /* words of an op buffer that is always enough */
 };
 
@@ -413,6 +414,26 @@ int64_t drivelog_force(uint64_t *state, size_t state_words, uint64_t *image, siz
 
          if (drivelog_force(state, DRIVELOG_STATE_WORDS, image, 2048, ops, DRIVELOG_OPS_WORDS, (uint64_t)lsn, 1, reply, 4) == 1)
              carry_out(ops, reply[DRIVELOG_REPLY_OPS]);
+*/
+
+int64_t drivelog_append(uint64_t *state, size_t state_words, uint64_t *image, size_t image_words, uint64_t *ops, size_t ops_words,
+                        uint64_t kind, const uint8_t *bytes, size_t count, uint64_t frequency, uint64_t *reply, size_t reply_words);
+/*
+     A record of a kind with these bytes, 0 to 1,024, in one call: drivelog_reserve, drivelog_copy of all bytes, drivelog_complete and
+   drivelog_force with the frequency, one after another, and it leaves the same image and state. It stores each word of the record once,
+   and one word after it, and then come the ops of the force, if it is due. What may be left of a log after a power failure in this call
+   may also be left by one in the four.
+
+     Returns its LSN, 1 or more, or -DRIVELOG_IMAGE_SIZE, -DRIVELOG_UNSOUND, -DRIVELOG_ARGUMENT (kind, count, frequency 0, or kind 600
+   with fewer than 8 bytes), -DRIVELOG_NUMBERS_SPENT, -DRIVELOG_TABLE_FULL, -DRIVELOG_NO_ROOM, -DRIVELOG_UNFINISHED (the force is due,
+   and an older record is still open; the detail is the lowest such LSN) or -DRIVELOG_OPS_SHORT. The second value is 1 if the record is
+   durable once the ops are carried out, 0 if that is deferred.
+
+     Example, a record that is durable at once:
+
+         int64_t lsn = drivelog_append(state, DRIVELOG_STATE_WORDS, image, 2048, ops, DRIVELOG_OPS_WORDS, 17, event, sizeof event, 1,
+                                       reply, 4);
+         carry_out(ops, reply[DRIVELOG_REPLY_OPS]);
 */
 
 int64_t drivelog_release(uint64_t *state, size_t state_words, uint64_t *image, size_t image_words, uint64_t *ops, size_t ops_words,
@@ -550,8 +571,8 @@ int64_t drivelog_crash_image(const uint64_t *image, size_t image_words, const ui
      Returns the crash point: how many ops are done. Or -DRIVELOG_IMAGE_SIZE (output_words is not image_words too), -DRIVELOG_BAD_OP,
    -DRIVELOG_TOO_MANY_CRASHES or -DRIVELOG_NO_SUCH_CRASH; then the output stays as it was.
 
-     It takes twice the time of drivelog_crash_count, a copy of the image, and of each op before the point that stores a pass over the
-   ops before the point. Neither call needs more than 4,096 bytes of stack.
+     It takes at most twice the time of drivelog_crash_count, a copy of the image, and of each op before the point that stores a pass
+   over the ops before the point. Neither call needs more than 4,096 bytes of stack.
 
      Example, every crash of a call in turn:
 

@@ -14,7 +14,7 @@
 #include <stdlib.h>
 #include <string.h>
 
-enum { WORDS = 40, LSNS = 8, OP = 8 * DRIVELOG_OP_WORDS }; /* the smallest image; LSNs are below 8 here; the bytes of an op */
+enum { WORDS = 40, LSNS = 10, OP = 8 * DRIVELOG_OP_WORDS }; /* the smallest image; LSNs are below 10 here; the bytes of an op */
 
 /* What was promised of each LSN. A record whose release has begun may be listed or not. */
 static struct { enum { NONE, COMPLETED, DURABLE, RELEASED } stage; uint64_t kind; const char *text; } promised[LSNS];
@@ -121,16 +121,38 @@ static int64_t crashed(const char *name, uint64_t lsn, int64_t answer)
     return answer;
 }
 
-/* A record, forced unless the frequency is 0. */
-static void append(uint64_t lsn, uint64_t kind, const char *text, uint64_t frequency)
+/* What is promised of a record that is completed, and of one that is durable with those before it. */
+static void completed(uint64_t lsn, uint64_t kind, const char *text)
+{
+    promised[lsn].stage = COMPLETED, promised[lsn].kind = kind, promised[lsn].text = text;
+}
+
+static void durable(uint64_t lsn)
+{
+    for (; promised[lsn].stage == COMPLETED; lsn--)
+        promised[lsn].stage = DURABLE;
+}
+
+/* A record by four calls, or three if the frequency is 0. */
+static void by_four(uint64_t lsn, uint64_t kind, const char *text, uint64_t frequency)
 {
     crashed("reserve", lsn, drivelog_reserve(LENT, kind, strlen(text), reply, 4));
     crashed("copy", lsn, drivelog_copy(LENT, lsn, 0, (const uint8_t *)text, strlen(text), reply, 4));
     crashed("complete", lsn, drivelog_complete(LENT, lsn, reply, 4));
-    promised[lsn].stage = COMPLETED, promised[lsn].kind = kind, promised[lsn].text = text;
+    completed(lsn, kind, text);
     if (frequency > 0 && crashed("force", lsn, drivelog_force(LENT, lsn, frequency, reply, 4)) == 1)
-        for (; promised[lsn].stage == COMPLETED; lsn--)
-            promised[lsn].stage = DURABLE;
+        durable(lsn);
+}
+
+/* The same by one call. It counts as completed even if power fails in it. */
+static void by_one(uint64_t lsn, uint64_t kind, const char *text, uint64_t frequency)
+{
+    int64_t answer = drivelog_append(LENT, kind, (const uint8_t *)text, strlen(text), frequency, reply, 4);
+    int is_durable = reply[DRIVELOG_REPLY_SECOND] == 1;
+    completed(lsn, kind, text);
+    crashed("append", lsn, answer);
+    if (is_durable)
+        durable(lsn);
 }
 
 int main(int arguments, char **argument)
@@ -141,23 +163,25 @@ int main(int arguments, char **argument)
         return fputs("usage: crashes [short-flush | marks-first]\n", stderr), 2;
     puts("call          ops  crashes  lists");
     crashed("format", 0, drivelog_format(LENT, reply, 4));
-    append(1, 1, "4120 hrs", 1);
-    append(2, 2, "start 87", 3); /* deferred */
-    append(3, 1, "4128 hrs", 3); /* due, for both */
+    by_four(1, 1, "4120 hrs", 1);
+    by_four(2, 2, "start 87", 3); /* deferred */
+    by_four(3, 1, "4128 hrs", 3); /* due, for both */
     promised[2].stage = RELEASED;
     crashed("release", 2, drivelog_release(LENT, 2, reply, 4));
     promised[1].stage = RELEASED;
     crashed("release", 1, drivelog_release(LENT, 1, reply, 4)); /* the head moves on, to record 3 */
-    append(4, 3, "bearings 205/62", 1);                         /* goes round the ring's end */
-    append(5, 4, "", 1);                                        /* its terminator is where record 2 began, which still has a mark */
+    by_four(4, 3, "bearings 205/62", 1);                         /* goes round the ring's end */
+    by_four(5, 4, "", 1);                                        /* its terminator is where record 2 began, which still has a mark */
     promised[3].stage = promised[4].stage = promised[5].stage = RELEASED;
     crashed("release all", 0, drivelog_release_all(LENT, reply, 4));
-    append(6, 1, "4136 hrs", 1);
-    append(7, 2, "start 88", 0);
+    by_four(6, 1, "4136 hrs", 1);
+    by_four(7, 2, "start 88", 0);
     memcpy(flushed, image, sizeof flushed); /* power fails, and what is left has every store in it; record 7 was not forced */
     pending = 0, promised[7].stage = NONE;
     crashed("recover", 0, drivelog_recover(LENT, reply, 4));
-    append(7, 5, "door 2", 1); /* the LSN is given again */
+    by_four(7, 5, "door 2", 1);  /* the LSN is given again */
+    by_one(8, 1, "4144 hrs", 3); /* deferred */
+    by_one(9, 4, "", 3);         /* due, for both; the log is full */
     printf("%d crashes, and no durable record is lost\n", (int)total);
     return 0;
 }

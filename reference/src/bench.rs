@@ -28,6 +28,12 @@ const REPAIR: u64 = 11;
 const VET: u64 = 12;
 const CRASHES_OF_STORES: u64 = 13;
 const CRASHES_OF_FLUSHES: u64 = 14;
+/// An append in one call, and releases as in [`APPEND`].
+const ONE_CALL: u64 = 15;
+/// Appends with no release, of [`TURN`] records and then of the same ones again: with frequency 8, and with frequency 1.
+const RECORDS: u64 = 16;
+const DURABLE: u64 = 17;
+const TURN: u64 = 8;
 /// Release of the head, plus the number of released records behind it.
 const RELEASE: u64 = 1000;
 /// The same with an LSN that is not live: refused right behind the soundness test.
@@ -53,6 +59,8 @@ pub struct Programs<'a> {
     /// An append through the calls for C and through the handle, and the same with the driver that stands on libpmem.
     pub append: Option<&'a Path>,
     pub append_pmem: Option<&'a Path>,
+    /// The driver that stands on libpmem, alone, with the ops of a durable append.
+    pub carry: Option<&'a Path>,
     /// The recovery of three modules through the calls for C.
     pub three: Option<&'a Path>,
     /// The check of another unit's ops through the calls for C.
@@ -140,6 +148,9 @@ impl Case {
             VET => "vet of 1,000 ops",
             CRASHES_OF_STORES => "11 stores and a flush of all",
             CRASHES_OF_FLUSHES => "4,095 flushes of one word",
+            ONE_CALL => "append in one call",
+            RECORDS => "append without releases",
+            DURABLE => "durable append without releases",
             RELEASE..NOT_LIVE => "release",
             _ => "release of no live LSN",
         }
@@ -195,7 +206,7 @@ pub fn same_work(proved: &Path, plain: &Path) -> Result<usize, Failure> {
     let many = [65, 200, 250].into_iter().flat_map(|live| [8, 63, 64].map(|bytes| (live, bytes)));
     let full = [FEW, MANY].map(|live| (live, full_image_length(live)));
     for (live, bytes) in few.chain(many).chain(full) {
-        for job in [APPEND, CRC, RECOVER, LIST] {
+        for job in [APPEND, ONE_CALL, CRC, RECOVER, LIST] {
             one_round(Case { job, bytes, live, words: LARGEST }, &pair, 100)?;
             jobs += 1;
         }
@@ -318,11 +329,13 @@ pub fn bench(programs: &Programs, rounds: usize, out: &mut impl Write) -> Result
         skipped("the calls for C", programs.calls, built, out)?;
     }
     boundary(programs, rounds, out)?;
+    in_one_call(programs, rounds, out)?;
     three_modules(programs, rounds, out)?;
     another_units_ops(programs, rounds, out)?;
     numbered_crashes(programs, rounds, out)?;
     through_the_handle(programs, rounds, out)?;
-    on_a_module(programs, rounds, out)
+    on_a_module(programs, rounds, out)?;
+    drivers_share(programs, rounds, out)
 }
 
 /// The medians of each case's programs.
@@ -498,6 +511,39 @@ fn boundary(programs: &Programs, rounds: usize, out: &mut impl Write) -> Result<
     table.print(out)
 }
 
+/// The one call for an append through the calls for C beside the four calls, and beside the one of plain Rust.
+fn in_one_call(programs: &Programs, rounds: usize, out: &mut impl Write) -> Result<(), Failure> {
+    let Some(path) = programs.append.filter(|path| path.exists()) else {
+        let built = "it is built where target/lib/libdrivelog.a is, which `make lib` writes";
+        return skipped("append in one call", programs.append, built, out);
+    };
+    let once = Program { path, args: &["once"], variables: &[] };
+    let three = [once, Program::new(path), Program::new(programs.plain)];
+    let cases: Vec<(Case, &[Program])> = [(64, 0), (64, 56), (64, 248), (1_024, 0), (1_024, 48)]
+        .map(|(bytes, live)| (Case { job: RECORDS, bytes, live, words: LARGEST }, &three[..]))
+        .to_vec();
+    let mut table = Table::new(
+        "Append in one call through the calls for C, frequency 8, with no release: beside reserve, copy, complete and force, and beside the one call in plain Rust. Image of 8,192 words.",
+        &["bytes", "live", "C, one call ns", "C, four calls ns", "ratio", "bar", "", "plain Rust, one call ns", "ratio", "bar", ""],
+    );
+    for ((case, _), medians) in cases.iter().zip(medians(&cases, rounds)?) {
+        let [one, four, plain] = medians[..] else { continue };
+        let mut row = vec![grouped(case.bytes), turn(case.live)];
+        let no_bar = || [String::new(), String::new()];
+        row.extend([ns(one), ns(four), ratio(one / four)]);
+        row.extend(if case.bytes == 64 { bar(one / four, 0.5) } else { no_bar() });
+        row.extend([ns(plain), ratio(one / plain)]);
+        row.extend(if case.bytes == 64 { bar(one / plain, 1.15) } else { no_bar() });
+        table.row(row);
+    }
+    table.print(out)
+}
+
+/// How many records are live while a turn is appended.
+fn turn(live: u64) -> String {
+    format!("{live} to {}", live + TURN)
+}
+
 /// The recovery of full images through the calls for C beside plain Rust: of one module, of three, and of three with a repair.
 fn three_modules(programs: &Programs, rounds: usize, out: &mut impl Write) -> Result<(), Failure> {
     let Some(three) = programs.three.filter(|path| path.exists()) else {
@@ -589,40 +635,42 @@ fn through_the_handle(
         let built = "it is built where target/lib/libdrivelog.a is, which `make lib` writes";
         return skipped("append through the handle", programs.append, built, out);
     };
-    let modes: [&[&str]; 4] = [&["checked"], &["handle"], &["three"], &["carried"]];
-    let four = modes.map(|args| Program { path, args, variables: &[] });
+    let modes: [&[&str]; 5] =
+        [&["checked"], &["handle"], &["three"], &["carried"], &["carried-four"]];
+    let five = modes.map(|args| Program { path, args, variables: &[] });
     let cases: Vec<(Case, &[Program])> = [(64, 0), (64, 60), (64, 250), (1_024, 0), (1_024, 60)]
-        .map(|(bytes, live)| (Case { job: APPEND, bytes, live, words: LARGEST }, &four[..]))
+        .map(|(bytes, live)| (Case { job: APPEND, bytes, live, words: LARGEST }, &five[..]))
         .to_vec();
     let mut table = Table::new(
-        "Append through the handle on modules in /dev/shm, beside the calls that it makes: four of the log, driver_carry, and driver_check after a durable force.",
+        "Append through the handle on modules in /dev/shm, beside the calls that it makes: drivelog_append, driver_carry, and driver_check where it answers durable; frequency 8, release of the oldest.",
         &[
             "bytes", "live", "calls ns", "handle ns", "ratio", "bar", "", "three modules ns", "to one", "bar", "",
-            "calls without driver_check ns",
+            "calls without driver_check ns", "the same with four calls ns",
         ],
     );
     for ((case, _), medians) in cases.iter().zip(medians(&cases, rounds)?) {
-        let [calls, handle, three, unchecked] = medians[..] else { continue };
+        let [calls, handle, three, unchecked, by_four] = medians[..] else { continue };
         let mut row = vec![grouped(case.bytes), grouped(case.live)];
         row.extend([ns(calls), ns(handle), ratio(handle / calls)]);
         row.extend(bar(handle / calls, 1.05));
         row.extend([ns(three), ratio(three / handle)]);
         row.extend(bar(three / handle, 3.2));
-        row.push(ns(unchecked));
+        row.extend([ns(unchecked), ns(by_four)]);
         table.row(row);
     }
     table.print(out)
 }
 
-/// An append with its ops carried out on a module in /dev/shm, beside libpmemlog's on a pool there. A program that is not there has no
-/// number.
+/// A durable append with its ops carried out on a module in /dev/shm, beside libpmemlog's on a pool there. A program that is not there has
+/// no number.
 fn on_a_module(programs: &Programs, rounds: usize, out: &mut impl Write) -> Result<(), Failure> {
     const LINES: &[(&str, &str)] = &[("PMEM_IS_PMEM_FORCE", "1")];
-    let columns: [(Option<&Path>, &[&str], &[(&str, &str)]); 4] = [
-        (programs.append, &["carried"], &[]),
+    let columns: [(Option<&Path>, &[&str], &[(&str, &str)]); 5] = [
         (programs.append_pmem, &["carried"], LINES),
-        (programs.pmemlog, &[], &[]),
         (programs.pmemlog, &[], LINES),
+        (programs.append_pmem, &["carried-four"], LINES),
+        (programs.append, &["carried"], &[]),
+        (programs.pmemlog, &[], &[]),
     ];
     let there = columns.map(|(path, args, variables)| {
         path.filter(|path| path.exists()).map(|path| [Program { path, args, variables }])
@@ -632,29 +680,63 @@ fn on_a_module(programs: &Programs, rounds: usize, out: &mut impl Write) -> Resu
         return skipped("append on a module", programs.append, built, out);
     }
     let mut table = Table::new(
-        "Append with its ops carried out on a module in /dev/shm, beside libpmemlog's append on a pool there.",
+        "Durable append, frequency 1, with no release, its ops carried out on a module in /dev/shm, beside libpmemlog's append on a pool there. Image of 8,192 words.",
         &[
             "bytes",
-            "driver, msync ns",
-            "driver, libpmem, cache lines ns",
-            "libpmemlog, msync ns",
+            "live",
+            "one call, past the cache ns",
             "libpmemlog, cache lines ns",
+            "ratio",
+            "bar",
+            "",
+            "four calls, past the cache ns",
+            "one call, msync ns",
+            "libpmemlog, msync ns",
         ],
     );
-    let lengths = [64, 1_024];
+    let rows = [(64, 0), (1_024, 0), (64, 56), (64, 248)];
     let mut cases: Vec<(Case, &[Program])> = Vec::new();
-    for bytes in lengths {
-        let case = Case { job: APPEND, bytes, live: 0, words: LARGEST };
+    for (bytes, live) in rows {
+        let case = Case { job: DURABLE, bytes, live, words: LARGEST };
         cases.extend(there.iter().flatten().map(|program| (case, &program[..])));
     }
     let mut medians = medians(&cases, rounds)?.into_iter().flatten();
-    for bytes in lengths {
-        let mut row = vec![grouped(bytes)];
-        for program in &there {
-            let time = program.as_ref().and_then(|_| medians.next());
-            row.push(time.map_or("not there".to_string(), ns));
+    for (bytes, live) in rows {
+        let times = there.each_ref().map(|program| program.as_ref().and_then(|_| medians.next()));
+        let cells = times.map(|time| time.map_or("not there".to_string(), ns));
+        let mut row = vec![grouped(bytes), turn(live), cells[0].clone(), cells[1].clone()];
+        match (times[0], times[1], live) {
+            (Some(one), Some(theirs), 0) => {
+                row.push(ratio(one / theirs));
+                row.extend(bar(one / theirs, if bytes == 64 { 1.0 } else { 2.2 }));
+            }
+            (Some(one), Some(theirs), _) => {
+                row.extend([ratio(one / theirs), String::new(), String::new()]);
+            }
+            _ => row.extend([(); 3].map(|()| String::new())),
         }
+        row.extend(cells[2..].iter().cloned());
         table.row(row);
+    }
+    table.print(out)
+}
+
+/// The ops of a durable append alone, carried out on a module in /dev/shm taken for persistent memory: the driver's share of the table above.
+fn drivers_share(programs: &Programs, rounds: usize, out: &mut impl Write) -> Result<(), Failure> {
+    let Some(path) = programs.carry.filter(|path| path.exists()) else {
+        return skipped("the driver's share", programs.carry, "it is built where libpmem is", out);
+    };
+    let carry = [Program { path, args: &[], variables: &[("PMEM_IS_PMEM_FORCE", "1")] }];
+    let lengths = [64, 1_024];
+    let cases: Vec<(Case, &[Program])> = lengths
+        .map(|bytes| (Case { job: APPEND, bytes, live: 0, words: LARGEST }, &carry[..]))
+        .to_vec();
+    let mut table = Table::new(
+        "The driver's share: the ops of a durable append, carried out on a module in /dev/shm taken for persistent memory.",
+        &["bytes", "driver_carry ns"],
+    );
+    for (bytes, median) in lengths.iter().zip(medians(&cases, rounds)?.into_iter().flatten()) {
+        table.row(vec![grouped(*bytes), ns(median)]);
     }
     table.print(out)
 }

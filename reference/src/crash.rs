@@ -53,6 +53,8 @@ pub struct Program {
 pub struct Report {
     pub histories: u64,
     pub crashes: u64,
+    /// How many of these were in an append, after at least one of its ops.
+    pub append_crashes: u64,
     pub images: u64,
     /// The most records that a crash image held, and the most different epochs.
     pub most_records: usize,
@@ -360,8 +362,8 @@ impl<'a> History<'a> {
         Ok(())
     }
 
-    /// Reserves and completes until so many records are live, in calls that power does not fail in; mostly all others are given up
-    /// before, if they can be, and now and then what there is is forced.
+    /// Reserves and completes, or appends, until so many records are live, in calls that power does not fail in; mostly all others are
+    /// given up before, if they can be, and now and then what there is is forced.
     fn fill(&mut self, wanted: u64) -> Result<(), String> {
         if self.rng.chance(2, 3) {
             self.undisturbed(&Command::ReleaseAll)?; // refused if some are not durable
@@ -371,6 +373,15 @@ impl<'a> History<'a> {
         for i in live..wanted {
             let length = self.rng.pick(&self.lengths);
             let kind = self.rng.between(1, MAX_KIND);
+            if self.rng.chance(1, 4) {
+                // Deferred up to a multiple of 256.
+                let bytes = self.rng.bytes(length);
+                let append = Command::Append { kind, frequency: TABLE_SIZE as u64, bytes };
+                if self.undisturbed(&append)?.is_refused() {
+                    break;
+                }
+                continue;
+            }
             let answer = self.undisturbed(&Command::Reserve { kind, length })?;
             let Some(&[lsn, _position]) = answer.numbers("ok") else {
                 break;
@@ -471,14 +482,17 @@ impl<'a> History<'a> {
             (1, Effort::FULL, Effort::SMALL)
         };
 
+        let in_append = u64::from(matches!(call, Command::Append { .. }) && some > 0);
         let every = if self.keeps { 9 } else { 12 };
         if self.rng.chance(1, every * seldom) {
+            self.report.append_crashes += in_append;
             self.carry_out(&answer.ops[..some]);
             self.promises.feed(&call, &answer, some, self.epoch);
             return self.crash(full).map_err(|what| describe(&call, some, all, &what));
         }
         if self.rng.chance(2, 5 * seldom) {
             // What if it failed here?
+            self.report.append_crashes += in_append;
             let mut device = self.device.clone();
             answer.ops[..some].iter().for_each(|&op| device.carry_out(op));
             let mut promises = self.promises.clone();
@@ -732,7 +746,10 @@ impl<'a> History<'a> {
                     let replacement = length >= NAMING_BYTES && rng.chance(1, 3);
                     let kind =
                         if replacement { REPLACEMENT_KIND } else { rng.between(1, MAX_KIND) };
-                    Command::Reserve { kind, length }
+                    match rng.chance(1, 3) {
+                        true => self.choose_append(kind, length, view),
+                        false => Command::Reserve { kind, length },
+                    }
                 } else if !committed.is_empty() && !(keeps && (open.len() + forceable.len() > 0)) {
                     // The oldest, to make room.
                     Command::Release { lsn: committed[0] }
@@ -784,14 +801,27 @@ impl<'a> History<'a> {
         ops
     }
 
-    /// Any bytes, or such as look like a committed record soon to come, mostly with the state's epoch.
+    /// Mostly with a frequency that has its force due.
+    fn choose_append(&mut self, kind: u64, length: u64, view: &StateView) -> Command {
+        let mut bytes = self.rng.bytes(length);
+        let (offset, part) = self.choose_part(view.state.next_lsn, length, view);
+        bytes[offset as usize..][..part.len()].copy_from_slice(&part);
+        let frequency = if self.rng.chance(1, 2) { 1 } else { self.rng.between(1, 9) };
+        Command::Append { kind, frequency, bytes }
+    }
+
     fn choose_copy(&mut self, lsn: u64, view: &StateView) -> Command {
+        let (offset, bytes) = self.choose_part(lsn, view.length(lsn), view);
+        Command::Copy { lsn, offset, bytes }
+    }
+
+    /// A part of a record's payload: any bytes, or such as look like a committed record soon to come, mostly with the state's epoch.
+    fn choose_part(&mut self, lsn: u64, length: u64, view: &StateView) -> (u64, Vec<u8>) {
         let rng = &mut self.rng;
-        let length = view.length(lsn);
         if length >= NAMING_BYTES && rng.chance(1, 4) {
             // A live record, which a replacement then rests on.
             let named = rng.between(view.state.head_lsn, lsn);
-            return Command::Copy { lsn, offset: 0, bytes: named.to_le_bytes().to_vec() };
+            return (0, named.to_le_bytes().to_vec());
         }
         if length >= 8 * HEADER_WORDS && rng.chance(1, 2) {
             let later = lsn + rng.between(1, 3);
@@ -807,12 +837,11 @@ impl<'a> History<'a> {
             ]);
             let words = [header.word(), later, CheckWord { check, epoch }.word()];
             let offset = 8 * rng.below(length / 8 - HEADER_WORDS + 1);
-            let bytes = words.into_iter().flat_map(u64::to_le_bytes).collect();
-            return Command::Copy { lsn, offset, bytes };
+            return (offset, words.into_iter().flat_map(u64::to_le_bytes).collect());
         }
         let offset = rng.below(length + 1);
         let count = rng.below(length - offset + 1);
-        Command::Copy { lsn, offset, bytes: rng.bytes(count) }
+        (offset, rng.bytes(count))
     }
 }
 

@@ -340,24 +340,36 @@ impl<'a> History<'a> {
             }
             11 if !committed.is_empty() => Command::Release { lsn: rng.pick(&committed) },
             12 if rng.chance(1, 4) => Command::ReleaseAll,
-            _ => self.choose_reserve(state, &committed),
+            _ => self.choose_record(state, &committed),
         }
     }
 
-    /// A record, or where there is no room the release of the oldest one.
-    fn choose_reserve(&mut self, state: &State, committed: &[u64]) -> Command {
+    /// A record, reserved or appended, or where there is no room the release of the oldest one.
+    fn choose_record(&mut self, state: &State, committed: &[u64]) -> Command {
         let length = self.rng.pick(&self.lengths);
         let fits = state.used_words() + record_size(length) < state.capacity;
+        let kind = self.rng.between(1, MAX_KIND);
         match committed {
             [oldest, ..] if !fits => Command::Release { lsn: *oldest },
-            _ => Command::Reserve { kind: self.rng.between(1, MAX_KIND), length },
+            _ if self.rng.chance(1, 3) => {
+                let mut bytes = self.rng.bytes(length);
+                let (offset, part) = self.choose_part(state.next_lsn, length, state);
+                bytes[offset as usize..][..part.len()].copy_from_slice(&part);
+                let frequency = if self.rng.chance(1, 2) { 1 } else { self.rng.between(2, 4) };
+                Command::Append { kind, frequency, bytes }
+            }
+            _ => Command::Reserve { kind, length },
         }
     }
 
-    /// Any bytes, or such as look like a committed record soon to come.
     fn choose_copy(&mut self, lsn: u64, state: &State) -> Command {
+        let (offset, bytes) = self.choose_part(lsn, state.entry(lsn).length, state);
+        Command::Copy { lsn, offset, bytes }
+    }
+
+    /// A part of a record's payload: any bytes, or such as look like a committed record soon to come.
+    fn choose_part(&mut self, lsn: u64, length: u64, state: &State) -> (u64, Vec<u8>) {
         let rng = &mut self.rng;
-        let length = state.entry(lsn).length;
         if length >= 8 * HEADER_WORDS && rng.chance(1, 2) {
             let later = lsn + rng.between(1, 3);
             let kind = rng.between(1, MAX_KIND);
@@ -366,12 +378,11 @@ impl<'a> History<'a> {
             let epoch = state.epoch + rng.below(2);
             let words = [header.word(), later, CheckWord { check, epoch }.word()];
             let offset = 8 * rng.below(length / 8 - HEADER_WORDS + 1);
-            let bytes = words.into_iter().flat_map(u64::to_le_bytes).collect();
-            return Command::Copy { lsn, offset, bytes };
+            return (offset, words.into_iter().flat_map(u64::to_le_bytes).collect());
         }
         let offset = rng.below(length + 1);
         let count = rng.below(length - offset + 1);
-        Command::Copy { lsn, offset, bytes: rng.bytes(count) }
+        (offset, rng.bytes(count))
     }
 
     // ------------------------------------------------------------ judging

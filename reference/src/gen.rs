@@ -18,13 +18,13 @@ use crate::script::{
 };
 use crate::state::{Entry, Stage, State};
 
-/// Op buffer words enough for every call on an image of so many words: the longest reserve and a force of all records that there is
-/// room for, a recovery at least.
+/// Op buffer words enough for every call on an image of so many words: an append of the longest record with a force of all records that
+/// there is room for, a recovery at least.
 pub fn roomy_op_buffer(words: u64) -> u64 {
     let room = words.saturating_sub(FIRST_RING_WORD + 1);
-    let reserve = 1 + room.min(record_size(MAX_LENGTH));
+    let record = 1 + room.min(record_size(MAX_LENGTH));
     let force = 2 + 2 * (room / HEADER_WORDS).min(TABLE_SIZE as u64);
-    OP_WORDS as u64 * reserve.max(force).max(11)
+    OP_WORDS as u64 * (record + force).max(11)
 }
 
 /// The script for a seed, as bytes.
@@ -99,7 +99,8 @@ impl Generator {
 
     fn chapter(&mut self) {
         match self.rng.below(14) {
-            0..=2 => self.small_history(),
+            0 | 1 => self.small_history(),
+            2 => self.appends(),
             13 => self.replacements(),
             3 => self.large_history(),
             4 if self.rng.chance(1, 2) => self.many_records(),
@@ -170,11 +171,17 @@ impl Generator {
         while self.live_count() < wanted {
             let length = self.rng.below(9);
             let kind = self.rng.between(1, MAX_KIND);
-            if self.make(Command::Reserve { kind, length }).is_refused() {
+            let command = if self.rng.chance(1, 8) {
+                Command::Append { kind, frequency: LSN_LIMIT, bytes: self.rng.bytes(length) }
+            } else {
+                Command::Reserve { kind, length }
+            };
+            if self.make(command).is_refused() {
                 break;
             }
         }
         self.call(Command::Reserve { kind: 1, length: 0 });
+        self.call(Command::Append { kind: 1, frequency: 1, bytes: Vec::new() });
         let mut open = self.live_in(Stage::Open);
         self.rng.shuffle(&mut open);
         for lsn in open {
@@ -213,6 +220,48 @@ impl Generator {
             }
         }
         self.call(Command::ReleaseAll);
+        self.look();
+    }
+
+    /// Records in one call each, deferred and due, of every sort: with open records before them, with none, in a full log and in one that
+    /// goes round its end, with op buffers a word too short. Some calls that a record takes otherwise come between.
+    fn appends(&mut self) {
+        let words = match self.rng.below(4) {
+            0 => self.rng.between(200, 500),
+            _ => self.rng.between(40, 110),
+        };
+        self.format(words);
+        let frequency = self.rng.pick(&[1, 2, 3, 4, 8]);
+        for _ in 0..self.rng.between(20, 80) {
+            match self.rng.below(12) {
+                0..=4 => {
+                    let length = match self.rng.below(4) {
+                        0 => self.length().min(MAX_SCRIPT_BYTES),
+                        _ => self.rng.below(26),
+                    };
+                    let (kind, bytes) = (self.kind(), self.rng.bytes(length));
+                    self.call(Command::Append { kind, frequency, bytes });
+                }
+                5 => {
+                    let command = self.append_call();
+                    self.call(command);
+                }
+                6 => {
+                    let length = self.rng.below(20);
+                    self.call(Command::Reserve { kind: 7, length });
+                }
+                7 | 8 => {
+                    let lsn = self.lsn_in(Stage::Open);
+                    self.call(Command::Complete { lsn });
+                }
+                9 | 10 => {
+                    let lsn = self.machine.state.head_lsn;
+                    self.call(Command::Release { lsn });
+                }
+                _ => self.step(),
+            }
+        }
+        self.walk();
         self.look();
     }
 
@@ -262,10 +311,7 @@ impl Generator {
         let kind =
             if self.rng.chance(2, 3) { REPLACEMENT_KIND } else { self.rng.pick(&[599, 601, 1]) };
         let length = self.rng.pick(&[8, 8, 8, 9, 16, 20]);
-        let reserved = self.make(Command::Reserve { kind, length });
-        let Some(&[lsn, _]) = reserved.numbers("ok") else {
-            return;
-        };
+        let lsn = self.machine.state.next_lsn;
         let &State { head_lsn, .. } = &self.machine.state;
         let named = match self.rng.below(10) {
             0 => 0,
@@ -276,6 +322,16 @@ impl Generator {
             5 => head_lsn,
             _ => self.rng.between(head_lsn, lsn),
         };
+        if self.rng.chance(1, 4) {
+            let mut bytes = named.to_le_bytes().to_vec();
+            bytes.resize(length as usize, 7);
+            let frequency = self.rng.between(1, 4);
+            self.call(Command::Append { kind, frequency, bytes });
+            return;
+        }
+        if self.make(Command::Reserve { kind, length }).is_refused() {
+            return;
+        }
         self.make(Command::Copy { lsn, offset: 0, bytes: named.to_le_bytes().to_vec() });
         if self.rng.chance(9, 10) {
             self.make(Command::Complete { lsn });
@@ -521,6 +577,8 @@ impl Generator {
             }
             self.crash();
         }
+        let command = self.append_call();
+        self.call(command);
         // A marked record where no LSN is left.
         self.walk();
         self.forge_record_at_end();
@@ -698,7 +756,7 @@ impl Generator {
     /// Any commands with any numbers.
     fn noise(&mut self) {
         for _ in 0..self.rng.between(10, 60) {
-            let command = match self.rng.below(19) {
+            let command = match self.rng.below(20) {
                 0 => Command::Image { words: self.rng.between(38, 100), value: self.number() },
                 1 => Command::Poke { word: self.rng.below(120), value: self.number() },
                 2 => Command::OpBuffer { words: self.rng.below(500), value: self.number() },
@@ -735,6 +793,11 @@ impl Generator {
                 15 => Command::Next,
                 16 => self.fetch(),
                 17 => Command::Words { first: self.number(), count: self.number() },
+                18 => {
+                    let count = self.rng.pick(&[0, 1, 7, 8, 9, 30]);
+                    let bytes = self.rng.bytes(count);
+                    Command::Append { kind: self.number(), frequency: self.number(), bytes }
+                }
                 _ => Command::State,
             };
             self.send(command);
@@ -747,7 +810,7 @@ impl Generator {
         match self.rng.below(10) {
             0 => self.words.extend([0, 10, 31]),
             1 => {
-                let number = self.rng.pick(&[7, 8, 9, 18, 19, 23, 29, 32, 255, u64::MAX]);
+                let number = self.rng.pick(&[7, 8, 9, 19, 23, 29, 32, 255, u64::MAX]);
                 self.words.extend([number, 31]);
             }
             2 => {
@@ -762,19 +825,21 @@ impl Generator {
             }
             3 => {
                 let count = self.rng.pick(&[MAX_SCRIPT_BYTES + 1, u64::MAX]);
-                let number = self.rng.pick(&[12, 22]);
+                let number = self.rng.pick(&[12, 18, 22]);
                 self.words.extend([number, 1, 0, count]);
             }
             4 => {
-                // Cut off, the last one within its data.
-                let commands: [&[u64]; 7] = [
+                // Cut off, the last two within their data.
+                let commands: [&[u64]; 9] = [
                     &[10, 1, 50],
                     &[31, 5, 1, 2, 3, 4, 1],
                     &[31, 6, 1, 2, 3, 4],
                     &[31, 6, 1, 2, 3, 4, 5],
                     &[11, 1],
                     &[31, 22, 1, 2],
+                    &[18, 1, 2],
                     &[12, 1, 0, 9, 5],
+                    &[18, 1, 1, 9, 5],
                 ];
                 let command = self.rng.pick(&commands);
                 self.words.extend(command);
@@ -788,6 +853,8 @@ impl Generator {
                 // The longest allowed.
                 self.words.extend([12, 1, 0, MAX_SCRIPT_BYTES]);
                 self.words.extend([77; MAX_SCRIPT_BYTES as usize / 8]);
+                self.words.extend([18, 1, 1, MAX_SCRIPT_BYTES]);
+                self.words.extend([78; MAX_SCRIPT_BYTES as usize / 8]);
                 self.words.extend([22, 0, MAX_LENGTH, MAX_SCRIPT_BYTES]);
                 self.words.extend([3, MAX_SCRIPT_OP_BUFFER, 5, 1, MAX_SCRIPT_IMAGE, 6, 10, 31]);
             }
@@ -835,8 +902,9 @@ impl Generator {
     /// A call with a state, its numbers mostly sensible for the present one.
     fn state_call(&mut self) -> Command {
         let nothing_open = self.live_in(Stage::Open).is_empty();
-        match self.rng.below(20) {
+        match self.rng.below(23) {
             0..=4 => Command::Reserve { kind: self.kind(), length: self.length() },
+            20..=22 => self.append_call(),
             5..=7 if nothing_open => Command::Reserve { kind: self.kind(), length: self.length() },
             5..=8 => self.copy_call(),
             9..=12 => Command::Complete { lsn: self.lsn_in(Stage::Open) },
@@ -844,6 +912,14 @@ impl Generator {
             16..=18 => Command::Release { lsn: self.lsn_in(Stage::Committed) },
             _ => Command::ReleaseAll,
         }
+    }
+
+    /// Kind and length as of a reserve, a replacement now and then, also one too short.
+    fn append_call(&mut self) -> Command {
+        let kind = if self.rng.chance(1, 8) { REPLACEMENT_KIND } else { self.kind() };
+        let length = self.length().min(MAX_SCRIPT_BYTES);
+        let bytes = self.rng.bytes(length);
+        Command::Append { kind, frequency: self.frequency(), bytes }
     }
 
     fn copy_call(&mut self) -> Command {

@@ -1,7 +1,7 @@
 //! How many completed records a power failure loses (document 02, slip 10), measured.
 //!
-//! Random runs keep the slip's discipline: each record is completed and then forced with the same F before the next is reserved. Any
-//! other call may stand anywhere. In every call power might fail: what the device may then hold is looked at, and the records completed
+//! Random runs keep the slip's discipline: each record is completed and then forced with the same F before the next is reserved, call by
+//! call or by one append with F. Any other call may stand anywhere. In every call power might fail: what the device may then hold is looked at, and the records completed
 //! since the last recovery or the formatting, with no release begun, that its walk does not list are counted. They have to be at most F,
 //! and the newest; at most F - 1 where the newest record's own force is over and the call completes none. Now and then power does fail.
 
@@ -163,6 +163,16 @@ impl Account {
                     self.turn = Turn::Free;
                 }
             }
+            // Reserved, completed and forced at once.
+            Command::Append { kind, frequency, ref bytes } => {
+                if let Answer::Appended { lsn, .. } = plan.answer {
+                    self.log.reserve(lsn, kind, bytes.len() as u64);
+                    self.since.push(lsn);
+                    let same =
+                        frequency == self.frequency || variant == Some(Variant::AnyFrequency);
+                    self.turn = if same { Turn::Free } else { Turn::Complete(lsn) };
+                }
+            }
             Command::Release { lsn } if done > 0 => self.log.begin_release(lsn),
             Command::ReleaseAll if done > 0 => self.log.begin_release_all(),
             Command::Recover if !fails => {
@@ -271,11 +281,12 @@ impl<'a> History<'a> {
                 return Ok(());
             }
         };
-        if matches!(call, Command::Reserve { .. }) && account.turn != Turn::Free {
+        let record = matches!(call, Command::Reserve { .. } | Command::Append { .. });
+        if record && account.turn != Turn::Free {
             return Ok(()); // it would be granted out of turn
         }
         let over = account.turn == Turn::Free && log.state.capacity > 0;
-        let over = over && !matches!(call, Command::Complete { .. });
+        let over = over && !matches!(call, Command::Complete { .. } | Command::Append { .. });
         self.look_inside(log, account, &call, &plan, over)?;
         if self.rng.chance(1, self.failures) {
             self.power_fails(log, account, &call, plan)
@@ -348,7 +359,7 @@ impl<'a> History<'a> {
         }
         let frequency = account.frequency;
         match account.turn {
-            Turn::Free => self.choose_reserve(&log.state),
+            Turn::Free => self.choose_record(&log.state, frequency),
             Turn::Open(lsn) if self.variant == Some(Variant::ForcedFirst) => {
                 match self.rng.chance(1, 2) {
                     true => Command::Force { lsn, frequency },
@@ -362,7 +373,7 @@ impl<'a> History<'a> {
             Turn::Complete(_) if self.leaves_out() => {
                 account.turn = Turn::Free;
                 self.story.push("its force is left out".to_string());
-                self.choose_reserve(&log.state)
+                self.choose_record(&log.state, frequency)
             }
             Turn::Complete(lsn) => Command::Force { lsn, frequency },
         }
@@ -375,11 +386,15 @@ impl<'a> History<'a> {
         leaves
     }
 
-    /// A record, or where there is no room what gives some: the oldest released, or all forced.
-    fn choose_reserve(&mut self, state: &State) -> Command {
+    /// A record, reserved or appended, or where there is no room what gives some: the oldest released, or all forced.
+    fn choose_record(&mut self, state: &State, frequency: u64) -> Command {
         let length = self.rng.pick(&self.lengths);
         if state.used_words() + record_size(length) < state.capacity {
-            return Command::Reserve { kind: self.rng.between(1, MAX_KIND), length };
+            let kind = self.rng.between(1, MAX_KIND);
+            if self.rng.chance(1, 3) {
+                return Command::Append { kind, frequency, bytes: self.rng.bytes(length) };
+            }
+            return Command::Reserve { kind, length };
         }
         match state.live().find(|&lsn| state.entry(lsn).stage == Stage::Committed) {
             Some(lsn) => Command::Release { lsn },
@@ -393,14 +408,18 @@ impl<'a> History<'a> {
         Command::Copy { lsn, offset, bytes: self.rng.bytes(count) }
     }
 
-    /// Any call with any numbers, often refused. A reserve that would be granted out of turn is not made.
+    /// Any call with any numbers, often refused. A record that would be granted out of turn is not made.
     fn choose_other(&mut self, state: &State, account: &Account) -> Command {
         let rng = &mut self.rng;
         let lsn = match rng.chance(7, 8) {
             true => rng.between(state.head_lsn, state.next_lsn),
             false => rng.below(100),
         };
-        match rng.below(12) {
+        match rng.below(13) {
+            12 => {
+                let bytes = rng.bytes(0);
+                Command::Append { kind: rng.below(2), frequency: rng.below(MOST as u64 + 2), bytes }
+            }
             0..=2 => Command::Release { lsn },
             3 => Command::ReleaseAll,
             4 | 5 => Command::Force { lsn, frequency: rng.below(MOST as u64 + 2) },

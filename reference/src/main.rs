@@ -59,7 +59,7 @@ usage: reference example                 print the listing that the program exam
        reference time PROGRAM...         how long each takes to list a full image
        reference time-load PROGRAM...    how long each takes to load the listing of a full image
        reference same-work PROVED PLAIN  whether two bench programs leave the same
-       reference bench PROVED PLAIN C_BENCH [PMEM] [--calls C_CALLS] [--append C_APPEND] [--append-pmem C_APPEND] [--three C_THREE] [--vet C_VET] [--crashes C_CRASHES] [--rounds N]
+       reference bench PROVED PLAIN C_BENCH [PMEM] [--calls C_CALLS] [--append C_APPEND] [--append-pmem C_APPEND] [--carry C_CARRY] [--three C_THREE] [--vet C_VET] [--crashes C_CRASHES] [--rounds N]
                                          how long the calls take, case by case
        reference cover SEED N            count what N scripts reach
        reference crash SECONDS [--program PATH] [--seed S] [--shortcut K]
@@ -332,13 +332,14 @@ fn run(args: &[&str]) -> io::Result<ExitCode> {
                 _ => (None, options),
             };
             let (mut calls, mut append, mut append_pmem) = (None, None, None);
-            let (mut three, mut vet, mut crashes) = (None, None, None);
+            let (mut carry, mut three, mut vet, mut crashes) = (None, None, None, None);
             let mut rounds = 31;
             for option in options.chunks(2) {
                 match *option {
                     ["--calls", path] => calls = Some(Path::new(path)),
                     ["--append", path] => append = Some(Path::new(path)),
                     ["--append-pmem", path] => append_pmem = Some(Path::new(path)),
+                    ["--carry", path] => carry = Some(Path::new(path)),
                     ["--three", path] => three = Some(Path::new(path)),
                     ["--vet", path] => vet = Some(Path::new(path)),
                     ["--crashes", path] => crashes = Some(Path::new(path)),
@@ -358,6 +359,7 @@ fn run(args: &[&str]) -> io::Result<ExitCode> {
                 calls,
                 append,
                 append_pmem,
+                carry,
                 three,
                 vet,
                 crashes,
@@ -431,9 +433,10 @@ fn crash(seconds: &str, options: &[&str]) -> io::Result<ExitCode> {
         println!("seed {}: {}", failure.seed, failure.what);
     }
     println!(
-        "crash: {} histories, {} crashes, {} images, {} failures",
+        "crash: {} histories, {} crashes, {} of them in an append, {} images, {} failures",
         report.histories,
         report.crashes,
+        report.append_crashes,
         report.images,
         report.failure.iter().count(),
     );

@@ -1,8 +1,8 @@
 //! Any of the calls, planned and not yet carried out: for benches that carry out some of its ops.
 
 use crate::calls::{
-    next, plan_complete, plan_copy, plan_force, plan_recover, plan_release, plan_release_all,
-    plan_reserve, Forced, Plan,
+    next, plan_append, plan_complete, plan_copy, plan_force, plan_recover, plan_release,
+    plan_release_all, plan_reserve, Forced, Plan,
 };
 use crate::ops::Op;
 use crate::refusal::Refusal;
@@ -19,6 +19,7 @@ pub struct PlannedCall {
 #[derive(Clone, Copy, Debug, PartialEq, Eq)]
 pub enum Answer {
     Reserved { lsn: u64 },
+    Appended { lsn: u64, durable: bool },
     Durable,
     Deferred,
     Done,
@@ -50,6 +51,12 @@ pub fn plan_call(image: &[u64], state: &State, call: &Command) -> Result<Planned
             PlannedCall::new(plan_force(image, state, lsn, frequency)?, |forced| match forced {
                 Forced::Durable => Answer::Durable,
                 Forced::Deferred => Answer::Deferred,
+            })
+        }
+        Command::Append { kind, frequency, ref bytes } => {
+            PlannedCall::new(plan_append(image, state, kind, bytes, frequency)?, |appended| {
+                let durable = appended.forced == Forced::Durable;
+                Answer::Appended { lsn: appended.lsn, durable }
             })
         }
         Command::Release { lsn } => PlannedCall::done(plan_release(image, state, lsn)?),

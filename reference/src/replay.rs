@@ -1,6 +1,6 @@
 //! The program replay: carries out a script of calls and prints what each did.
 
-use crate::calls::{self, Cursor, Done, Forced, Next, Reserved};
+use crate::calls::{self, Appended, Cursor, Done, Forced, Next, Reserved};
 use crate::layout::TABLE_SIZE;
 use crate::ops::OP_WORDS;
 use crate::refusal::Refusal;
@@ -110,6 +110,13 @@ impl Machine {
                 let result = shortcut::recover(shortcut, image, op_buffer);
                 let result = result.map(|done| adopt(state, done));
                 self.writing("takeup", result, |_| "ok".to_string())
+            }
+            Command::Append { kind, frequency, ref bytes } => {
+                let result =
+                    shortcut::append(shortcut, image, op_buffer, state, kind, bytes, frequency);
+                self.writing("append", result, |Appended { lsn, forced }| {
+                    format!("ok {lsn} {}", u64::from(forced == Forced::Durable))
+                })
             }
 
             Command::Open => {

@@ -7,7 +7,7 @@ use crate::refusal::RecordTest;
 pub const MAX_SCRIPT_IMAGE: u64 = 9_000;
 pub const MAX_SCRIPT_OP_BUFFER: u64 = 26_000;
 pub const MAX_SCRIPT_BYTES: u64 = 2_048;
-/// Bytes of the longest command, a copy with its data.
+/// Bytes of the longest command, a copy or an append with its data.
 pub const LONGEST_COMMAND: usize = 8 * 4 + MAX_SCRIPT_BYTES as usize;
 
 #[derive(Clone, Debug, PartialEq, Eq)]
@@ -26,6 +26,7 @@ pub enum Command {
     Release { lsn: u64 },
     ReleaseAll,
     Recover,
+    Append { kind: u64, frequency: u64, bytes: Vec<u8> },
     Open,
     Next,
     Fetch { position: u64, length: u64, output: u64 },
@@ -59,20 +60,13 @@ impl Command {
             }
             Command::Format => vec![10],
             Command::Reserve { kind, length } => vec![11, kind, length],
-            Command::Copy { lsn, offset, ref bytes } => {
-                let mut words = vec![12, lsn, offset, bytes.len() as u64];
-                words.extend(bytes.chunks(8).map(|chunk| {
-                    let mut word = [0; 8];
-                    word[..chunk.len()].copy_from_slice(chunk);
-                    u64::from_le_bytes(word)
-                }));
-                words
-            }
+            Command::Copy { lsn, offset, ref bytes } => with_data(12, lsn, offset, bytes),
             Command::Complete { lsn } => vec![13, lsn],
             Command::Force { lsn, frequency } => vec![14, lsn, frequency],
             Command::Release { lsn } => vec![15, lsn],
             Command::ReleaseAll => vec![16],
             Command::Recover => vec![17],
+            Command::Append { kind, frequency, ref bytes } => with_data(18, kind, frequency, bytes),
             Command::Open => vec![20],
             Command::Next => vec![21],
             Command::Fetch { position, length, output } => vec![22, position, length, output],
@@ -114,14 +108,19 @@ impl Command {
             }),
             10 => Command::Format,
             11 => Command::Reserve { kind: arg()?, length: arg()? },
-            12 => {
-                let (lsn, offset, count) = (arg()?, arg()?, arg()?);
+            12 | 18 => {
+                let (first, second, count) = (arg()?, arg()?, arg()?);
                 if count > MAX_SCRIPT_BYTES {
                     return Some(Parsed::Bad(number));
                 }
                 let data: Option<Vec<u64>> = (0..count.div_ceil(8)).map(|_| arg()).collect();
                 let bytes = data?.into_iter().flat_map(u64::to_le_bytes).take(count as usize);
-                Command::Copy { lsn, offset, bytes: bytes.collect() }
+                let bytes = bytes.collect();
+                if number == 12 {
+                    Command::Copy { lsn: first, offset: second, bytes }
+                } else {
+                    Command::Append { kind: first, frequency: second, bytes }
+                }
             }
             13 => Command::Complete { lsn: arg()? },
             14 => Command::Force { lsn: arg()?, frequency: arg()? },
@@ -158,6 +157,17 @@ impl Command {
     }
 }
 
+/// The words of a command with two arguments, a count of bytes, and the bytes.
+fn with_data(number: u64, first: u64, second: u64, bytes: &[u8]) -> Vec<u64> {
+    let mut words = vec![number, first, second, bytes.len() as u64];
+    words.extend(bytes.chunks(8).map(|chunk| {
+        let mut word = [0; 8];
+        word[..chunk.len()].copy_from_slice(chunk);
+        u64::from_le_bytes(word)
+    }));
+    words
+}
+
 /// What a call answered.
 #[derive(Clone, Debug, PartialEq, Eq)]
 pub enum Outcome {
@@ -171,7 +181,7 @@ pub enum Outcome {
     Done { word: String, numbers: Vec<u64> },
 }
 
-/// The line of one of the eleven calls, read back.
+/// The line of a call, read back.
 #[derive(Clone, Debug, PartialEq, Eq)]
 pub struct Answer {
     pub name: String,

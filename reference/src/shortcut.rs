@@ -3,17 +3,17 @@
 //! A log with one of them is broken on purpose: the crash bench must find that out. Only the calls that
 //! a short cut can touch stand here; without one they are those of [`crate::calls`].
 
-use crate::calls::{self, Cursor, Done, Forced, Next};
-use crate::layout::MARK_RELEASED;
+use crate::calls::{self, Appended, Cursor, Done, Forced, Next};
+use crate::layout::{record_size, MARK_RELEASED};
 use crate::ops::Op;
 use crate::refusal::{RecordTest, Refusal};
 use crate::state::State;
 
 #[derive(Clone, Copy, Debug, PartialEq, Eq)]
 pub enum Shortcut {
-    /// 1: force stores the marks before it flushes the payload.
+    /// 1: force, and that of an append, stores the marks before it flushes the payload.
     MarkBeforePayloadFlush,
-    /// 2: force does not flush the word behind the last record.
+    /// 2: neither flushes the word behind the last record.
     TerminatorNotFlushed,
     /// 3: the walk ends at a released record.
     WalkEndsAtReleased,
@@ -62,22 +62,43 @@ pub fn force(
     frequency: u64,
 ) -> Result<Done<Forced>, Refusal> {
     let mut plan = calls::plan_force(image, state, lsn, frequency)?;
+    bend_force(shortcut, &mut plan.ops);
+    plan.carry_out(image, op_buffer, state)
+}
+
+pub fn append(
+    shortcut: Option<Shortcut>,
+    image: &mut [u64],
+    op_buffer: &mut [u64],
+    state: &mut State,
+    kind: u64,
+    bytes: &[u8],
+    frequency: u64,
+) -> Result<Done<Appended>, Refusal> {
+    let mut plan = calls::plan_append(image, state, kind, bytes, frequency)?;
+    // The force's ops come behind the record's words and the terminator.
+    let stores = record_size(bytes.len() as u64) as usize + 1;
+    bend_force(shortcut, &mut plan.ops[stores..]);
+    plan.carry_out(image, op_buffer, state)
+}
+
+/// The ops of a force, which may be none.
+fn bend_force(shortcut: Option<Shortcut>, ops: &mut [Op]) {
     let is_store = |op: &Op| matches!(op, Op::Store { .. });
-    let payload_flushes = plan.ops.iter().take_while(|op| !is_store(op)).count();
+    let payload_flushes = ops.iter().take_while(|op| !is_store(op)).count();
     match shortcut {
         Some(Shortcut::MarkBeforePayloadFlush) => {
-            let marks = plan.ops.iter().filter(|op| is_store(op)).count();
-            plan.ops[..payload_flushes + marks].rotate_left(payload_flushes);
+            let marks = ops.iter().filter(|op| is_store(op)).count();
+            ops[..payload_flushes + marks].rotate_left(payload_flushes);
         }
         Some(Shortcut::TerminatorNotFlushed) if payload_flushes > 0 => {
             let last = payload_flushes - 1;
-            if let Op::Flush { first, count } = plan.ops[last] {
-                plan.ops[last] = Op::Flush { first, count: count - 1 };
+            if let Op::Flush { first, count } = ops[last] {
+                ops[last] = Op::Flush { first, count: count - 1 };
             }
         }
         _ => {}
     }
-    plan.carry_out(image, op_buffer, state)
 }
 
 pub fn release(

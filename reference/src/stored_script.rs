@@ -14,6 +14,7 @@ pub fn stored_script() -> Vec<u8> {
     script.a_log_of_64_words();
     script.damage();
     script.replacements();
+    script.appends();
     script.a_full_table();
     script.states_by_hand();
     script.epochs_in_records();
@@ -91,6 +92,10 @@ impl Script {
 
     fn recover(&mut self) {
         self.run(Command::Recover);
+    }
+
+    fn append(&mut self, kind: u64, frequency: u64, bytes: &[u8]) {
+        self.run(Command::Append { kind, frequency, bytes: bytes.to_vec() });
     }
 
     fn open(&mut self) {
@@ -204,6 +209,63 @@ impl Script {
         self.release(1);
     }
 
+    /// The bench sheet's record in one call, deferred and due; every refusal of append, and op buffers a word too short for it.
+    fn appends(&mut self) {
+        let long = [9; 1_025];
+        self.fresh(16);
+        self.append(17, 8, &[0x41, 0x42, 0x43]);
+        self.print_words(24, 5);
+        self.fresh(16);
+        self.append(17, 1, &[0x41, 0x42, 0x43]);
+        self.print_words(24, 5);
+        self.print_state();
+        for kind in [0, 65_536] {
+            self.append(kind, 1, &[]);
+        }
+        self.append(1, 1, &long);
+        self.append(1, 0, &[]);
+        self.append(600, 1, &long[..7]);
+        self.append(1, 1, &long[..1_024]);
+        // Deferred up to LSN 4, which all three are due with: op buffers of a word too few and of just enough. Then one that goes round.
+        self.release(1);
+        for words in [11, 12] {
+            self.op_buffer(words, 0);
+            self.append(2, 4, &[]);
+        }
+        self.op_buffer(15, 0);
+        self.append(600, 4, &[2, 0, 0, 0, 0, 0, 0, 0]);
+        for words in [32, 33] {
+            self.op_buffer(words, 0);
+            self.append(4, 4, &[]);
+        }
+        self.append(5, 1, &[1]);
+        self.print_state();
+        self.print_words(0, 40);
+        // An older record is open: no matter where the force is deferred.
+        self.fresh(40);
+        self.append(1, 3, b"one");
+        self.reserve(2, 0);
+        self.append(3, 3, b"three");
+        self.append(3, 4, b"three");
+        self.append(4, 4, b"four");
+        self.complete(2);
+        self.append(4, 4, b"four");
+        self.print_state();
+        self.op_buffer(33, 0);
+        self.recover();
+        self.walk(5);
+        // No LSN left; an area that is not the image's.
+        self.field(2, 1 << 62);
+        self.append(1, 1, &[]);
+        self.field(0, 41);
+        self.append(1, 1, &[]);
+        self.format();
+        self.field(2, 1 << 62);
+        self.field(4, 1 << 62);
+        self.field(5, (1 << 62) - 1);
+        self.append(1, 1, &[]);
+    }
+
     /// A damaged record, a damaged superline, a cursor that is not sound or has seen a full table.
     fn damage(&mut self) {
         self.reserve(9, 8);
@@ -247,6 +309,7 @@ impl Script {
         for _ in 254..=257 {
             self.reserve(1, 0);
         }
+        self.append(1, 1, &[]);
         for lsn in 254..=256 {
             self.complete(lsn);
         }

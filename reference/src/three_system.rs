@@ -224,13 +224,19 @@ impl System {
             {
                 self.log.make_durable(lsn);
             }
+            Command::Append { kind, ref bytes, .. } => {
+                if let Answer::Appended { lsn, durable } = plan.answer {
+                    let durable = durable && self.force_counts(plan.ops.len(), done);
+                    self.log.append(lsn, kind, bytes, durable);
+                }
+            }
             Command::Release { lsn } if self.release_begins(done) => self.log.begin_release(lsn),
             Command::ReleaseAll if self.release_begins(done) => self.log.begin_release_all(),
             _ => {}
         }
     }
 
-    /// Two modules in step carried out all ops of the force, or it has none.
+    /// Two modules in step carried out all ops of the force or of the append, or the force has none.
     fn force_counts(&self, all: usize, done: [usize; MODULES]) -> bool {
         let modules = self.modules.iter().zip(done);
         let counted = modules.filter(|(module, done)| module.in_step && *done == all).count();

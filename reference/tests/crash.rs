@@ -24,6 +24,7 @@ fn no_failure_without_a_short_cut() {
     let report = bench(None, 77, 4);
     assert!(report.failure.is_none(), "{:?}", report.failure);
     assert!(report.images > 100);
+    assert!(report.append_crashes > 10, "{}", report.append_crashes);
 }
 
 /// Records of several runs, and some from before slip 8, behind one another.

@@ -111,6 +111,12 @@ fn run_both(machine: &mut Machine, command: &Command, met: &mut Met) {
             plain::force(&mut image, &mut ops, &mut state, lsn, frequency),
             met,
         ),
+        Command::Append { kind, frequency, ref bytes } => same(
+            "append",
+            calls::append(clear_image, clear_ops, clear, kind, bytes, frequency),
+            plain::append(&mut image, &mut ops, &mut state, kind, bytes, frequency),
+            met,
+        ),
         Command::Release { lsn } => same(
             "release",
             calls::release(clear_image, clear_ops, clear, lsn),
@@ -203,6 +209,7 @@ fn generated_scripts() {
     assert_eq!(refusals("copy"), [1, 2, 5, 6, 7, 15]);
     assert_eq!(refusals("complete"), [1, 2, 5, 6, 15]);
     assert_eq!(refusals("force"), [1, 2, 3, 5, 11, 15]);
+    assert_eq!(refusals("append"), [1, 2, 3, 8, 9, 10, 11, 15]);
     assert_eq!(refusals("release"), [1, 2, 5, 6, 15, 20]);
     assert_eq!(refusals("recover"), [1, 4, 8, 12, 13, 15]);
 }
@@ -233,6 +240,7 @@ fn long_histories() {
     // A head given back, and the longest record.
     assert!(met.kinds.contains(&("release", Ok(10 / 8))));
     assert!(met.kinds.contains(&("reserve", Ok(132 / 8))));
+    assert!(met.kinds.contains(&("append", Ok(132 / 8))));
 }
 
 /// Tables filled, forced in one stretch, and given back in any order; in between, states in which one number is another.
@@ -358,7 +366,13 @@ fn next_call(rng: &mut Rng, state: &State) -> Command {
     let lsn = rng.between(head_lsn - 1, next_lsn);
     let first_open = state.live().find(|&lsn| state.entry(lsn).stage == Stage::Open);
     let open = first_open.unwrap_or(lsn);
-    match rng.below(32) {
+    match rng.below(37) {
+        32.. => {
+            let most = rng.pick(&[8, 40, 1_024.min(4 * capacity)]);
+            let count = rng.between(0, most + 1);
+            let (kind, frequency) = (rng.between(0, 65_536), rng.below(9));
+            Command::Append { kind, frequency, bytes: rng.bytes(count) }
+        }
         0..8 => {
             let most = rng.pick(&[8, 40, 1_024.min(4 * capacity)]);
             Command::Reserve { kind: rng.between(0, 65_536), length: rng.between(0, most + 1) }

@@ -84,6 +84,7 @@ fn state_calls() -> Vec<Command> {
         Command::Copy { lsn: 5, offset: 0, bytes: vec![1, 2, 3] },
         Command::Complete { lsn: 5 },
         Command::Force { lsn: 4, frequency: 1 },
+        Command::Append { kind: 1, frequency: 100, bytes: vec![1, 2, 3] },
         Command::Release { lsn: 3 },
         Command::ReleaseAll,
     ]

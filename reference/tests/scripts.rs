@@ -90,18 +90,20 @@ fn ends_of_scripts() {
     let state = "state 0 0 0 0 0 0 0 0\n";
     assert_eq!(run_words(&[]), "");
     assert_eq!(run_words(&[31, 0, 31]), state);
-    for word in [7, 18, 23, 32, u64::MAX] {
+    for word in [7, 19, 23, 32, u64::MAX] {
         assert_eq!(run_words(&[31, word, 31]), format!("{state}bad {word}\n"));
     }
     // Limits.
     assert_eq!(run_words(&[1, 9_001, 0, 31]), "bad 1\n");
     assert_eq!(run_words(&[3, 26_001, 0, 31]), "bad 3\n");
     assert_eq!(run_words(&[12, 0, 0, 2_049]), "bad 12\n");
+    assert_eq!(run_words(&[18, 0, 0, 2_049]), "bad 18\n");
     assert_eq!(run_words(&[22, 0, 0, u64::MAX]), "bad 22\n");
     assert_eq!(run_words(&[1, 9_000, 0, 3, 26_000, 0, 31]), state);
     // Cut off: within the arguments, even if the limit is passed; within the data; within a word.
     assert_eq!(run_words(&[31, 1, 9_001]), state);
     assert_eq!(run_words(&[31, 12, 1, 0, 9, 5]), state);
+    assert_eq!(run_words(&[31, 18, 1, 1, 9, 5]), state);
     assert_eq!(run(&[31, 0, 0, 0, 0, 0, 0, 0, 31, 0, 0]), state);
 }
 
@@ -147,6 +149,7 @@ fn scripts_reach_every_refusal() {
     let coverage = Coverage::of_scripts(1, 300);
     assert_eq!(coverage.uncovered(), []);
     assert_eq!(coverage.uncovered_tests(), []);
+    assert_eq!(coverage.uncovered_appends(), [""; 0]);
     assert_eq!(coverage.unexpected(), []);
 }
 

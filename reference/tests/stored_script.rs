@@ -92,6 +92,50 @@ fn the_stored_lines_have_the_rows_of_the_bench_sheet() {
     }
 }
 
+/// Append: the sheet's record, each refusal, an op buffer with a word too few and with just enough, deferred and due.
+#[test]
+fn the_stored_lines_have_the_appends() {
+    let lines: Vec<&str> = STDOUT.lines().collect();
+    let run = |rows: &[&str]| {
+        let fits = |part: &[&str]| part.iter().zip(rows).all(|(line, row)| line.starts_with(row));
+        assert!(lines.windows(rows.len()).any(fits), "{rows:?}");
+    };
+    let stores = "s 24 73014444035 s 25 1 s 26 6151524604 s 27 4407873 s 28 0";
+    run(&[
+        &format!("append ok 1 0 orders 5 {stores} = "),
+        "words 73014444035 1 6151524604 4407873 0",
+        "format ok ",
+        &format!("append ok 1 1 orders 8 {stores} f 24 5 s 24 281547991154691 f 24 1 = "),
+        "words 281547991154691 1 6151524604 4407873 0",
+        "state 16 0 1 4 2 1 0 1 [1 0 3 17 3 1]",
+        "append refused 3 0 orders 0 = ",
+        "append refused 3 0 orders 0 = ",
+        "append refused 3 0 orders 0 = ",
+        "append refused 3 0 orders 0 = ",
+        "append refused 3 0 orders 0 = ",
+        "append refused 10 0 orders 0 = ",
+        "release ok ",
+        "append refused 15 12 orders 0 = ",
+        "append ok 2 0 orders 4 s 28 ",
+        "append ok 3 0 orders 5 s 31 ",
+        "append refused 15 33 orders 0 = ",
+        "append ok 4 1 orders 11 s 35 ",
+        "append ok 5 1 orders 9 s 38 21474836481 s 39 5 s 24 ",
+        "state 16 4 2 2 6 5 ",
+    ]);
+    run(&[
+        "append ok 1 0 ",
+        "reserve ok 2 4 ",
+        "append refused 11 2 ",
+        "append ok 3 0 ",
+        "append refused 11 2 ",
+        "complete ok ",
+        "append ok 4 1 ",
+    ]);
+    run(&["append refused 2 0 ", "append refused 1 0 ", "format ok ", "append refused 8 0 "]);
+    run(&["reserve refused 9 0 ", "append refused 9 0 "]);
+}
+
 /// Epochs: of the state that completed a record, of one from before slip 8, falling, above the superline's, behind a wrong check.
 #[test]
 fn the_stored_lines_have_the_epochs() {

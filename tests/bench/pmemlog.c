@@ -1,6 +1,6 @@
 /* Times libpmemlog's append on a pool in memory, beside the log's own.
  *
- * Standard input: five little-endian words, job, bytes, live, count and words; the job is 1, and live and words mean nothing here.
+ * Standard input: five little-endian words, job, bytes, live, count and words; the job is 17, and live and words mean nothing here.
  * Timed, `count` times: pmemlog_append of `bytes` bytes, with pmemlog_rewind when the pool is full. Standard output: the
  * microseconds of CPU time and 0. Bad input: nothing. The pool is a file in /dev/shm, which is gone at the end.
  *
@@ -19,7 +19,7 @@ int main(void)
     if (fread(input, 8, 5, stdin) != 5)
         return 0;
     uint64_t job = input[0], bytes = input[1], live = input[2], count = input[3], words = input[4];
-    if (job != 1 || bytes < 1 || bytes > 1024 || live > 64 || words < 40 || words > 8192)
+    if (job != 17 || bytes < 1 || bytes > 1024 || live > 256 || words < 40 || words > 8192)
         return 0;
 
     unsigned char payload[1024];

@@ -37,6 +37,8 @@ int main()
     uint64_t reply[DRIVELOG_THREE_REPLY_WORDS];
     all = all && drivelog_recover_three(0, 0, 0, 0, 0, 0, 0, 0, 7, 0, 0, 0, 0, 0, 0, reply, DRIVELOG_THREE_REPLY_WORDS) == refused
         && drivelog_recover_three(0, 0, 0, 0, 0, 0, 0, 0, 7, 0, 0, 0, 0, 0, 0, reply, 4) == -DRIVELOG_OUTPUT_SHORT;
+    all = all && drivelog_append(0, 0, 0, 0, 0, 0, 1, 0, 0, 1, reply, DRIVELOG_REPLY_WORDS) == refused
+        && drivelog_append(0, 0, 0, 0, 0, 0, 1, 0, 0, 1, 0, 0) == -DRIVELOG_OUTPUT_SHORT;
     all = all && drivelog_vet(0, 0, 0, 0, 0, 0, reply, DRIVELOG_REPLY_WORDS) == refused && drivelog_vet(0, 0, 0, 0, 0, 0, 0, 0) == -DRIVELOG_OUTPUT_SHORT;
     return all && texts() && version() ? 0 : 1;
 }

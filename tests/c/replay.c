@@ -16,7 +16,7 @@ enum { MOST_IMAGE = 9000, MOST_OPS = 26000, MOST_BYTES = 2048, OUTPUT_BYTE = 238
 
 /* The commands by their numbers. */
 enum { IMAGE = 1, POKE, OPS, FIELD, ENTRY, CURSOR };
-enum { FORMAT = 10, RESERVE, COPY, COMPLETE, FORCE, RELEASE, RELEASE_ALL, RECOVER };
+enum { FORMAT = 10, RESERVE, COPY, COMPLETE, FORCE, RELEASE, RELEASE_ALL, RECOVER, APPEND };
 enum { OPEN = 20, NEXT, FETCH };
 enum { WORDS = 30, STATE };
 
@@ -49,6 +49,9 @@ static const struct command {
     [RECOVER] = {"takeup", 0,
                  {DRIVELOG_IMAGE_SIZE, DRIVELOG_UNSOUND, DRIVELOG_SUPERLINE, DRIVELOG_NUMBERS_SPENT, DRIVELOG_TOO_MANY,
                   DRIVELOG_DAMAGED, DRIVELOG_OPS_SHORT}},
+    [APPEND] = {"append", 3,
+                {DRIVELOG_IMAGE_SIZE, DRIVELOG_UNSOUND, DRIVELOG_ARGUMENT, DRIVELOG_NUMBERS_SPENT, DRIVELOG_TABLE_FULL, DRIVELOG_NO_ROOM,
+                 DRIVELOG_UNFINISHED, DRIVELOG_OPS_SHORT}},
     [OPEN] = {"open", 0, {DRIVELOG_OUTPUT_SHORT, DRIVELOG_IMAGE_SIZE, DRIVELOG_SUPERLINE}},
     [NEXT] = {"next", 0,
               {DRIVELOG_OUTPUT_SHORT, DRIVELOG_IMAGE_SIZE, DRIVELOG_UNSOUND, DRIVELOG_TOO_MANY, DRIVELOG_DAMAGED}},
@@ -202,8 +205,8 @@ static void take_ops(void)
 static void print_granted(uint64_t number)
 {
     uint64_t second = reply[DRIVELOG_REPLY_SECOND];
-    need(number == RESERVE || second == 0, "a second value that no one asked for");
-    if (number == RESERVE) {
+    need(number == RESERVE || (number == APPEND && second == 1) || second == 0, "a second value that no one asked for");
+    if (number == RESERVE || number == APPEND) {
         need(result > 0, "no LSN is 0");
         printf(" ok %" PRId64 " %" PRIu64, result, second);
     } else if (number == FORCE) {
@@ -215,11 +218,14 @@ static void print_granted(uint64_t number)
     }
 }
 
+/* Whether a command has so many bytes after it as its third argument says. */
+static int has_data(uint64_t number) { return number == COPY || number == APPEND; }
+
 static void make_writing(uint64_t number, const uint64_t a[6], const uint8_t *bytes)
 {
     uint64_t *r, *s = lend(&in_state, state, sizeof state);
     uint64_t *w = lend(&in_image, image, 8 * image_words), *o = lend(&in_ops, ops, 8 * ops_words);
-    size_t n = DRIVELOG_STATE_WORDS, wn = image_words, on = ops_words, rn = lend_reply(&r), count = number == COPY ? a[2] : 0;
+    size_t n = DRIVELOG_STATE_WORDS, wn = image_words, on = ops_words, rn = lend_reply(&r), count = has_data(number) ? a[2] : 0;
     uint8_t *b = lend(&in_bytes, bytes, count);
     switch (number) {
     case FORMAT:
@@ -236,6 +242,9 @@ static void make_writing(uint64_t number, const uint64_t a[6], const uint8_t *by
         break;
     case FORCE:
         result = drivelog_force(s, n, w, wn, o, on, a[0], a[1], r, rn);
+        break;
+    case APPEND:
+        result = drivelog_append(s, n, w, wn, o, on, a[0], b, count, a[1], r, rn);
         break;
     case RELEASE:
         result = drivelog_release(s, n, w, wn, o, on, a[0], r, rn);
@@ -415,7 +424,7 @@ static void carry_out(uint64_t number, const uint64_t a[6], const uint8_t *bytes
 static int beyond_limit(uint64_t number, const uint64_t a[6])
 {
     return (number == IMAGE && a[0] > MOST_IMAGE) || (number == OPS && a[0] > MOST_OPS)
-           || ((number == COPY || number == FETCH) && a[2] > MOST_BYTES);
+           || ((has_data(number) || number == FETCH) && a[2] > MOST_BYTES);
 }
 
 int main(void)
@@ -431,7 +440,7 @@ int main(void)
             printf("bad %" PRIu64 "\n", number);
             break;
         }
-        size_t data = number == COPY ? (a[2] + 7) / 8 : 0;
+        size_t data = has_data(number) ? (a[2] + 7) / 8 : 0;
         if (fread(bytes, 8, data, stdin) != data)
             break;
         call_name = commands[number].name;

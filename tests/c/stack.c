@@ -38,7 +38,7 @@ static uint64_t cursor[DRIVELOG_CURSOR_WORDS], record[DRIVELOG_RECORD_WORDS];
 #define LENT state, DRIVELOG_STATE_WORDS, LOG, ops, DRIVELOG_OPS_WORDS
 #define REPLY reply, DRIVELOG_REPLY_WORDS
 
-/* One record of the longest payload, from format to its release. */
+/* One record of the longest payload, from format to its release, and one more in one call. */
 static int64_t format(void) { return drivelog_format(LENT, REPLY); }
 static int64_t reserve(void) { return drivelog_reserve(LENT, 17, sizeof output, REPLY); }
 static int64_t copy(void) { return drivelog_copy(LENT, 1, 0, output, sizeof output, REPLY); }
@@ -49,6 +49,7 @@ static int64_t open(void) { return drivelog_open(LOG, cursor, DRIVELOG_CURSOR_WO
 static int64_t next(void) { return drivelog_next(LOG, cursor, DRIVELOG_CURSOR_WORDS, record, DRIVELOG_RECORD_WORDS, REPLY); }
 static int64_t fetch(void) { return drivelog_fetch(LOG, 0, sizeof output, output, sizeof output, REPLY); }
 static int64_t release(void) { return drivelog_release(LENT, 1, REPLY); }
+static int64_t append(void) { return drivelog_append(LENT, 17, output, sizeof output, 1, REPLY); }
 static int64_t release_all(void) { return drivelog_release_all(LENT, REPLY); }
 
 /* Ops of somebody else: one store, and a flush of all. */
@@ -96,10 +97,11 @@ static size_t used_by(struct call *call)
     return STACK - painted;
 }
 
-/* Whether it is one of the four calls that work on one record, or vet, which takes no more. */
+/* Whether it is one of the calls that work on the words in place: of records, or vet. */
 static int on_a_record(const struct call *call)
 {
-    return call->make == reserve || call->make == copy || call->make == complete || call->make == release || call->make == vet;
+    return call->make == reserve || call->make == copy || call->make == complete || call->make == force || call->make == append
+        || call->make == release || call->make == vet;
 }
 
 /* The calls in turn, each held to `most`, or to `most_on_a_record`: the status that they leave. */
@@ -125,7 +127,7 @@ int main(int argc, char **argv)
                               {"payload", payload, 0}, {"list", list, 0}, {"payload_at", payload_at, 0}};
     struct call on_words[] = {{"format", format, 0}, {"reserve", reserve, 0}, {"copy", copy, 0}, {"complete", complete, 0},
                               {"force", force, 0}, {"recover", recover, 0}, {"open", open, 0}, {"next", next, 0}, {"fetch", fetch, 0},
-                              {"vet", vet, 0}, {"release", release, 0}, {"release_all", release_all, 0}};
+                              {"vet", vet, 0}, {"release", release, 0}, {"append", append, 0}, {"release_all", release_all, 0}};
     struct call on_three[] = {{"recover_three", recover_three, 0}};
     FILE *file = argc == 6 ? fopen(argv[5], "rb") : NULL;
     if (file == NULL) {

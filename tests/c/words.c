@@ -10,9 +10,9 @@
 
 enum { STATE = DRIVELOG_STATE_WORDS, IMAGE = 200, OPS = DRIVELOG_OPS_WORDS, BYTES = 9, ENTRIES = 256 };
 
-enum call { FORMAT, RESERVE, COPY, COMPLETE, FORCE, RELEASE, RELEASE_ALL, RECOVER, WRITING, OPEN = WRITING, NEXT, FETCH, CALLS };
-static const char *const names[] = {"format",      "reserve", "copy", "complete", "force", "release",
-                                    "release_all", "recover", "open", "next",     "fetch"};
+enum call { FORMAT, RESERVE, COPY, COMPLETE, FORCE, RELEASE, RELEASE_ALL, APPEND, RECOVER, WRITING, OPEN = WRITING, NEXT, FETCH, CALLS };
+static const char *const names[] = {"format",      "reserve", "copy",    "complete", "force", "release",
+                                    "release_all", "append",  "recover", "open",     "next",  "fetch"};
 
 /* A log with what its calls need: three records, the first committed, the second complete, the third open; or all committed. */
 struct log {
@@ -28,6 +28,10 @@ static const struct counts usual = {STATE, IMAGE, OPS, 4, DRIVELOG_CURSOR_WORDS,
 
 static const uint64_t old_ops[OPS] = {5, 6, 7}, old_words[] = {~0ull, ~1ull, ~2ull, ~3ull, ~4ull, ~5ull, ~6ull, ~7ull};
 static const uint8_t old_bytes[1024] = {1, 2, 3, 4, 5, 6, 7, 8, 9};
+static const uint8_t longest[DRIVELOG_MAX_PAYLOAD + 1] = {7};
+
+/* The force frequency of an append. With 8 it is deferred, also with the third record open. */
+static uint64_t frequency = 8;
 
 static struct place in_state, in_image, in_ops, in_bytes, in_cursor, in_record, in_reply;
 
@@ -55,6 +59,8 @@ static int64_t make(enum call call, const struct log *log, struct counts n, uint
         return drivelog_release(s, n.state, w, n.image, o, n.ops, 1, r, n.reply);
     case RELEASE_ALL:
         return drivelog_release_all(s, n.state, w, n.image, o, n.ops, r, n.reply);
+    case APPEND:
+        return drivelog_append(s, n.state, w, n.image, o, n.ops, 17, b, n.bytes, frequency, r, n.reply);
     case RECOVER:
         return drivelog_recover(s, n.state, w, n.image, o, n.ops, r, n.reply);
     case OPEN:
@@ -98,7 +104,7 @@ static void declines(enum call call, const struct log *log, struct counts n, int
 static void grants(enum call call, const struct log *log, struct counts n, uint64_t length, int64_t value, uint64_t ops)
 {
     need(make(call, log, n, length) == value, "another value");
-    need_reply(0, 0, call == RESERVE ? log->state[3] : 0);
+    need_reply(0, 0, call == RESERVE ? log->state[3] : call == APPEND && frequency == 1);
     need(((const uint64_t *)(const void *)in_reply.lent)[2] == ops, "another count of ops");
     need(stayed(&in_state, log->state, 8 * n.state) && stayed(&in_image, log->image, 8 * n.image), "guard bytes are altered");
     need(stayed(&in_ops, old_ops, 24 * ops), "the op buffer is altered behind the ops");
@@ -145,8 +151,8 @@ static void make_logs(void)
 /* What the calls do with the usual counts, and with more words than a reply, a cursor or a record needs. */
 static void usual_counts(void)
 {
-    static const int64_t values[] = {0, 4, 0, 0, 1, 0, 0, 0, 0, 1, BYTES};
-    static const uint64_t ops[] = {11, 6, 2, 1, 3, 10, 9, 11, 0, 0, 0};
+    static const int64_t values[] = {0, 4, 0, 0, 1, 0, 0, 4, 0, 0, 1, BYTES};
+    static const uint64_t ops[] = {11, 6, 2, 1, 3, 10, 9, 6, 11, 0, 0, 0};
     for (size_t more = 0; more < 3; more++) {
         struct counts n = usual;
         n.reply += more;
@@ -155,6 +161,13 @@ static void usual_counts(void)
         for (enum call call = 0; call < CALLS; call++)
             grants(call, log_of(call), n, BYTES, values[call], ops[call]);
     }
+    /* Due: refused with the third record open, and else the stores, a flush, a mark and its flush. */
+    frequency = 1;
+    declines(APPEND, &mixed, usual, DRIVELOG_UNFINISHED, 3);
+    grants(APPEND, &settled, usual, 0, 4, 9);
+    frequency = 0;
+    declines(APPEND, &settled, usual, DRIVELOG_ARGUMENT, 0);
+    frequency = 8;
     need(drivelog_state_words() == DRIVELOG_STATE_WORDS, "the archive has another count of words for a state");
 }
 
@@ -346,13 +359,40 @@ static void limits(void)
         need(kind == due, "the last kind, or one more");
         int64_t length = drivelog_reserve(state, STATE, image, MAX, ops, OPS, 1, DRIVELOG_MAX_PAYLOAD + more, reply, 4);
         need(length == (more ? due : 2), "the longest payload, or one more");
+        kind = drivelog_append(state, STATE, image, MAX, ops, OPS, DRIVELOG_MAX_KIND + more, NULL, 0, 8, reply, 4);
+        need(kind == (more ? due : 3), "the last kind of an append, or one more");
+        length = drivelog_append(state, STATE, image, MAX, ops, OPS, 1, longest, DRIVELOG_MAX_PAYLOAD + more, 8, reply, 4);
+        need(length == (more ? due : 4), "the longest payload of an append, or one more");
+        uint64_t name = DRIVELOG_NAME_BYTES - more;
+        int64_t named = drivelog_append(state, STATE, image, MAX, ops, OPS, DRIVELOG_REPLACEMENT_KIND, longest, name, 8, reply, 4);
+        need(named == (more ? due : 5), "the bytes that name a record, or one fewer");
     }
+}
+
+/* The longest list of ops: an append whose force has 256 records, the last of them of the longest payload, round the ring's end. */
+static void most_ops(void)
+{
+    static uint64_t state[STATE], image[DRIVELOG_MAX_IMAGE_WORDS], ops[OPS], reply[4];
+    enum { MAX = DRIVELOG_MAX_IMAGE_WORDS, BEFORE = 62 };
+    call_name = "the most ops";
+    need(drivelog_format(state, STATE, image, MAX, ops, OPS, reply, 4) == 0, "format");
+    /* So many of 131 words each leave less than one at the end of the ring's 8,168. */
+    for (int i = 0; i < BEFORE; i++) {
+        need(drivelog_append(state, STATE, image, MAX, ops, OPS, 1, longest, DRIVELOG_MAX_PAYLOAD, 1, reply, 4) > 0, "append");
+        need(drivelog_release_all(state, STATE, image, MAX, ops, OPS, reply, 4) == 0, "release all");
+    }
+    for (int i = 1; i < DRIVELOG_MAX_RECORDS; i++)
+        need(drivelog_append(state, STATE, image, MAX, ops, OPS, 1, NULL, 0, 1000, reply, 4) == BEFORE + i && reply[3] == 0, "deferred");
+    int64_t lsn = drivelog_append(state, STATE, image, MAX, ops, OPS - 1, 1, longest, DRIVELOG_MAX_PAYLOAD, 1, reply, 4);
+    need(lsn == -DRIVELOG_OPS_SHORT && reply[1] == OPS, "the op buffer is a word too short");
+    lsn = drivelog_append(state, STATE, image, MAX, ops, OPS, 1, longest, DRIVELOG_MAX_PAYLOAD, 1, reply, 4);
+    need(lsn == BEFORE + DRIVELOG_MAX_RECORDS && reply[2] == DRIVELOG_MAX_OPS && reply[3] == 1, "the most ops");
 }
 
 /* No words or bytes at all. */
 static void nothing_lent(void)
 {
-    static const uint64_t needed[] = {33, 18, 6, 3, 9, 30, 27, 33};
+    static const uint64_t needed[] = {33, 18, 6, 3, 9, 30, 27, 18, 33};
     static struct log empty;
     step(&empty, FORMAT, 0);
     struct counts n = usual;
@@ -360,12 +400,22 @@ static void nothing_lent(void)
     for (enum call call = 0; call < WRITING; call++)
         declines(call, log_of(call), n, DRIVELOG_OPS_SHORT, needed[call]);
     grants(RELEASE_ALL, &empty, n, 0, 0, 0);
+    /* One word too few for an append, deferred and due. */
+    n.ops = 17;
+    declines(APPEND, &mixed, n, DRIVELOG_OPS_SHORT, 18);
+    frequency = 1;
+    n.ops = 26;
+    declines(APPEND, &settled, n, DRIVELOG_OPS_SHORT, 27);
+    frequency = 8;
+    n.ops = 0;
     /* What is durable already needs no ops. */
     grants(FORCE, &settled, n, 0, 1, 0);
     n.bytes = 0;
     grants(COPY, &mixed, n, 0, 0, 0);
     grants(FETCH, &mixed, n, 0, 0, 0);
     declines(FETCH, &mixed, n, DRIVELOG_OUTPUT_SHORT, 0);
+    n.ops = OPS;
+    grants(APPEND, &mixed, n, 0, 4, 4);
     n = usual;
     n.image = 0;
     for (enum call call = 0; call < CALLS; call++)
@@ -387,6 +437,7 @@ int main(void)
         nothing_lent();
         constants();
         limits();
+        most_ops();
         flipped_state();
         flipped_image();
     }

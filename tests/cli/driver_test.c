@@ -1,7 +1,7 @@
-/* driver FILE: the driver alone, on a file that it makes and takes away. Ops in turn, ops that it declines, the lock, new files, files that
- * are replaced, its errors. Status 1 and a line for the first thing that is not as it should be. Linked with
+/* driver FILE: the driver alone, on a file that it makes and takes away. Ops in turn, ops that it declines, a flush that fails, the lock, new
+ * files, files that are replaced, its errors. Status 1 and a line for the first thing that is not as it should be. Linked with
  * --wrap=calloc and --wrap=renameat2, so that the test can do something in the middle of driver_open, and stand for a file system without
- * that rename. */
+ * that rename; and with --wrap of msync, pmem_msync, pmem_drain and pmem_persist, so that it sees each flush. */
 
 #define _DEFAULT_SOURCE
 #include "driver.h"
@@ -12,10 +12,57 @@
 #include <stdio.h>
 #include <stdlib.h>
 #include <string.h>
+#include <sys/mman.h>
 #include <sys/stat.h>
 #include <unistd.h>
 
 static int checks;
+
+/* Words 7 to 9 of a module at each of its flushes, and which of them fails. */
+static const struct driver_module *watched;
+static uint64_t seen[8][3];
+static int flushes, failing_flush = -1;
+
+static int at_flush(void)
+{
+    if (watched != NULL && flushes < 8)
+        memcpy(seen[flushes], watched->words + 7, sizeof seen[0]);
+    errno = EIO;
+    return watched != NULL && flushes++ == failing_flush ? -1 : 0;
+}
+
+int __real_msync(void *from, size_t bytes, int how);
+int __wrap_msync(void *from, size_t bytes, int how);
+int __wrap_msync(void *from, size_t bytes, int how) { return at_flush() != 0 ? -1 : __real_msync(from, bytes, how); }
+
+#ifdef DRIVER_PMEM
+#include <libpmem.h>
+
+/* What was flushed line by line last. */
+static const void *persisted;
+static size_t persisted_bytes;
+
+int __real_pmem_msync(const void *from, size_t bytes);
+int __wrap_pmem_msync(const void *from, size_t bytes);
+int __wrap_pmem_msync(const void *from, size_t bytes) { return at_flush() != 0 ? -1 : __real_pmem_msync(from, bytes); }
+
+void __real_pmem_drain(void);
+void __wrap_pmem_drain(void);
+void __wrap_pmem_drain(void)
+{
+    at_flush();
+    __real_pmem_drain();
+}
+
+void __real_pmem_persist(const void *from, size_t bytes);
+void __wrap_pmem_persist(const void *from, size_t bytes);
+void __wrap_pmem_persist(const void *from, size_t bytes)
+{
+    persisted = from;
+    persisted_bytes = bytes;
+    __real_pmem_persist(from, bytes);
+}
+#endif
 
 /* What is renamed when the driver next asks for memory, which is after it has locked the file. */
 static const char *rename_from, *rename_to;
@@ -77,6 +124,53 @@ static int left_over(const char *folder)
         count += strncmp(one->d_name, ".drivelog-", 10) == 0;
     closedir(all);
     return count;
+}
+
+/* Each flush comes when the stores before it are done, and none of those after it; after one that fails nothing more is done. */
+static void in_turn(const char *path)
+{
+    static const uint64_t ops[] = {1, 7, 1, 1, 8, 2, 2, 7, 2, 1, 7, 3, 1, 9, 4, 2, 9, 1, 2, 7, 1, 1, 7, 5, 1, 8, 6};
+    static const uint64_t due[3][3] = {{1, 2, 0}, {3, 2, 4}, {3, 2, 4}};
+    struct driver_module *module = driver_create(path, 100);
+    EXPECT(module != NULL);
+    watched = module;
+    EXPECT(driver_carry(module, ops, sizeof ops / sizeof ops[0] / 3) == 0);
+    EXPECT(flushes == 3 && memcmp(seen, due, sizeof due) == 0);
+    EXPECT(module->words[7] == 5 && module->words[8] == 6 && module->words[9] == 4);
+    driver_close(module);
+    unlink(path);
+    module = driver_create(path, 100);
+    EXPECT(module != NULL);
+    watched = module;
+    flushes = 0;
+    failing_flush = 1;
+    if (!module->flushes_lines) { /* else a flush is a fence, which cannot fail */
+        EXPECT(driver_carry(module, ops, sizeof ops / sizeof ops[0] / 3) == -1 && errno == EIO && flushes == 2);
+        EXPECT(module->words[7] == 3 && module->words[8] == 2 && module->words[9] == 4);
+    }
+    watched = NULL;
+    driver_close(module);
+    unlink(path);
+}
+
+/* Where stores go past the cache, what was in it is flushed before: all of the module, when it is opened. */
+static void flushed_before(const char *path)
+{
+#ifdef DRIVER_PMEM
+    struct driver_module *module = driver_create(path, 1500);
+    EXPECT(module != NULL);
+    driver_close(module);
+    persisted = NULL;
+    persisted_bytes = 0;
+    module = driver_open(path);
+    EXPECT(module != NULL);
+    if (module->flushes_lines)
+        EXPECT(persisted == module->words && persisted_bytes == 8 * module->count);
+    driver_close(module);
+    unlink(path);
+#else
+    (void)path;
+#endif
 }
 
 /* A file is made whole or not at all. */
@@ -228,6 +322,8 @@ int main(int count, char **argument)
     EXPECT(truncate(path, 8 * WORDS + 4) == 0 && driver_open(path) == NULL && errno == EINVAL);
     EXPECT(truncate(path, 0) == 0 && driver_open(path) == NULL && errno == EINVAL);
     unlink(path);
+    in_turn(path);
+    flushed_before(path);
     for (no_rename = 0; no_rename < 2; no_rename++)
         making(path, folder);
     standard_streams(path);

@@ -2,7 +2,7 @@
  *
  *     no-flush    flushes are left out
  *     short       a flush of the ring leaves its last word out: that of a force, the word behind the last record
- *     mark-first  a force stores its marks before it flushes the records
+ *     mark-first  a force, also that of an append, stores its marks before it flushes the records
  *     last        a call's last op is left out
  *     late        a call's ops are carried out with the next call
  *     forget      when the module is closed, the mark that was stored last is taken away again
@@ -45,15 +45,25 @@ static int carry_those(struct driver_module *module, const uint64_t *ops, size_t
     return 0;
 }
 
+/* Where a force begins in a call's ops, `count` if none does: only a force's begin with a flush, and only an append's with four stores or
+ * more that are none of the superline's. */
+static size_t force_in(const uint64_t *ops, size_t count)
+{
+    size_t first = 0;
+    while (first < count && ops[OP_WORDS * first] == STORE && ops[OP_WORDS * first + 1] >= SUPERLINE)
+        first++;
+    return count > 1 && first < count && (first == 0 || first > 3) && ops[OP_WORDS * first] == FLUSH ? first : count;
+}
+
 int driver_carry(struct driver_module *module, const uint64_t *ops, size_t count)
 {
     const char *way = getenv("BREAK");
     if (way == NULL || count > DRIVELOG_MAX_OPS)
         return carry_in_turn(module, ops, count);
-    /* Only a force's ops begin with a flush. */
-    int forces = count > 1 && ops[0] == FLUSH;
+    size_t first = force_in(ops, count);
+    int forces = first < count;
     if (strcmp(way, "forget") == 0) {
-        for (size_t i = 0; forces && i < count; i++)
+        for (size_t i = first; i < count; i++)
             last_marked = ops[OP_WORDS * i] == STORE ? ops[OP_WORDS * i + 1] : last_marked;
         return carry_in_turn(module, ops, count);
     }
@@ -70,9 +80,9 @@ int driver_carry(struct driver_module *module, const uint64_t *ops, size_t count
     if (strcmp(way, "no-flush") == 0)
         return carry_those(module, ops, count, STORE);
     if (strcmp(way, "mark-first") == 0) {
-        if (!forces)
-            return carry_in_turn(module, ops, count);
-        return carry_those(module, ops, count, STORE) | carry_those(module, ops, count, FLUSH);
+        const uint64_t *force = ops + OP_WORDS * first;
+        return carry_in_turn(module, ops, first) | carry_those(module, force, count - first, STORE) |
+               carry_those(module, force, count - first, FLUSH);
     }
     if (strcmp(way, "last") == 0)
         return carry_in_turn(module, ops, count > 0 ? count - 1 : 0);

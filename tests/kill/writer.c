@@ -1,17 +1,17 @@
 /* writer SEED FILE, or writer SEED A B C: writes records into the log in one module or in three until it is killed, and reports what it does,
  * for tests/kill/kill.
  *
- * It recovers, then makes random calls, chosen by SEED: several records open at once, payloads copied in pieces, appends, forces with
- * frequencies 1 to 8, releases of any record, now and then of all, now and then another recovery. A line of the report is written in one
+ * It recovers, then makes random calls, chosen by SEED: several records open at once, payloads copied in pieces, appends, some of them with
+ * records open, forces with frequencies 1 to 8, releases of any record, now and then of all, now and then another recovery. A line of the report is written in one
  * piece:
  *
  *     recovering           a recovery begins
  *     step N               from now on these modules are in step, one bit each
  *     found LSN KIND HEX   a record that the recovery lists ("-" if it is empty)
  *     recovered LSN        the recovery's ops are carried out; the next record gets this LSN
- *     record LSN KIND HEX  a record is going to be reserved, and to have this payload; none of its ops is carried out yet
+ *     record LSN KIND HEX  a record is going to be reserved or appended, and to have this payload; none of its ops is carried out yet
  *     refused LSN          it was refused, and is none
- *     force LSN            a force is going to answer durable; none of its ops is carried out yet
+ *     force LSN            a force, or an append of the record, is going to answer durable; none of its ops is carried out yet
  *     durable LSN          all of them are
  *     release LSN          a release is going to be granted; none of its ops is carried out yet
  *     released LSN         all of them are
@@ -116,6 +116,7 @@ static void recover(void)
     too_few = 0;
     if (answer < 0 && drive.module_count == HANDLE_MODULES) {
         report("declined %" PRId64 "\n", -answer);
+        handle_close(&drive); /* with the back end for power failures, what was flushed gets into the files only so */
         exit(0);
     }
     if (answer < 0)
@@ -203,14 +204,21 @@ static void is_durable(uint64_t lsn)
     report("durable %" PRIu64 "\n", lsn);
 }
 
+/* With a record open it is refused where it would be durable. */
 static void append(void)
 {
     uint64_t kind = new_record(), frequency = 1 + below(8), lsn = next_lsn;
     const struct open_record *record = &records[open_count];
-    int due = is_due(lsn, frequency);
-    if (due)
+    int due = is_due(lsn, frequency), blocked = due && open_count > 0;
+    if (due && !blocked)
         report("force %" PRIu64 "\n", lsn);
     int64_t answer = handle_append(&drive, kind, record->payload, record->length, frequency);
+    if (blocked && answer == -DRIVELOG_UNFINISHED) {
+        report("refused %" PRIu64 "\n", lsn);
+        return;
+    }
+    if (blocked && answer >= 0)
+        fail("append", answer);
     if (got_in(answer, "append") && due != (drive.durable_lsn >= lsn))
         fail("append", due);
     if (answer >= 0 && due)
@@ -272,15 +280,16 @@ int main(int count, char **argument)
     if (opened < 0 && drive.module_count != HANDLE_MODULES)
         fail("open", opened);
     recover();
-    /* Some runs fill the log, some keep it nearly empty. */
+    /* Some runs fill the log, some keep it nearly empty. Some append every record. */
     uint64_t releases = below(4);
+    int appends_all = below(3) == 0;
     for (;;) {
         uint64_t choice = below(20);
         if (too_few || (choice == 19 && below(200) == 0))
             recover();
-        else if (choice < 4 && open_count < OPEN_AT_ONCE)
+        else if (choice < 4 && open_count < OPEN_AT_ONCE && !appends_all)
             reserve();
-        else if (choice < 6 && open_count == 0)
+        else if (choice < 6 && open_count < OPEN_AT_ONCE)
             append();
         else if (choice < 14 && open_count > 0)
             go_on_with(below(open_count));

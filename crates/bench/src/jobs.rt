@@ -43,8 +43,8 @@ fn since(before: u64) -> u64 {
     after - before
 }
 
-// Does the work of job 1, 3 or, for any other number, 4, so often: appends, each followed by releases that leave `live`
-// records; recoveries; listings. Answers the bytes of a listing's text.
+// Does the work of job 1, 15, 3 or, for any other number, 4, so often: appends by four calls or by one, each followed by
+// releases that leave `live` records; recoveries; listings. Answers the bytes of a listing's text.
 fn work(
     job: Job,
     s: State,
@@ -55,8 +55,16 @@ fn work(
 ) -> usize
     ensures { λ r. ⌜ r ≤ length (now (text .entry)) ⌝ }
 {
-    if job.number == 1 {
-        log::append_over(s, image, ops, payload, job.live, job.count);
+    if (job.number == 1) | (job.number == 15) {
+        log::append_over(
+            s,
+            image,
+            ops,
+            payload,
+            job.live,
+            job.count,
+            job.number == 15,
+        );
         return 0;
     }
     if job.number == 3 {
@@ -84,13 +92,13 @@ fn release_job(job: Job, image: &mut [u64], ops: &mut [u64], payload: &[u8]) -> 
 
 // A CRC-32 of what a job left: of the image after appends and recoveries, of the text after listings.
 fn digest_of(number: u64, image: &[u64], text: &[u8]) -> u64 {
-    if (number == 1) | (number == 3) {
+    if (number == 1) | (number == 3) | (number == 15) {
         return room::digest(image);
     }
     crc32::crc_bytes(text) as u64
 }
 
-// Does job 1, 3 or 4 on a log with `live` records.
+// Does job 1, 3, 4 or 15 on a log with `live` records.
 fn job_on(job: Job, image: &mut [u64], ops: &mut [u64], payload: &[u8], text: &mut [u8]) -> Done {
     let s = log::start(image, ops, payload, job.live);
     let before = now();

@@ -1,5 +1,6 @@
 // The log that the jobs work on: records appended, forced at every eighth, and released from the head on.
 use drivelog::State;
+use drivelog::append;
 use drivelog::complete;
 use drivelog::copy;
 use drivelog::force;
@@ -20,12 +21,21 @@ fn draft(s: State, image: &mut [u64], ops: &mut [u64], payload: &[u8]) -> State 
 }
 
 // One record more: reserved, filled, completed, and forced if its LSN is a multiple of eight.
-pub fn append(s: State, image: &mut [u64], ops: &mut [u64], payload: &[u8]) -> State {
+pub fn append_by_four(s: State, image: &mut [u64], ops: &mut [u64], payload: &[u8]) -> State {
     let lsn = s.next_lsn;
     let drafted = draft(s, image, ops, payload);
     let completed = complete(drafted, image, ops, lsn);
     let forced = force(completed.state, image, ops, lsn, 8);
     forced.state
+}
+
+// The same, or as one call.
+fn one_more(s: State, image: &mut [u64], ops: &mut [u64], payload: &[u8], once: bool) -> State {
+    if once {
+        let appended = append(s, image, ops, 1, payload, 8);
+        return appended.state;
+    }
+    append_by_four(s, image, ops, payload)
 }
 
 // Whether more than `live` records are live and the head is committed.
@@ -52,7 +62,7 @@ pub fn trim(s: State, image: &mut [u64], ops: &mut [u64], live: u64) -> State {
     t
 }
 
-// So many records appended, each followed by releases that leave `live` of them.
+// So many records appended, by four calls or by one, each followed by releases that leave `live` of them.
 pub fn append_over(
     s: State,
     image: &mut [u64],
@@ -60,11 +70,12 @@ pub fn append_over(
     payload: &[u8],
     live: u64,
     count: u64,
+    once: bool,
 ) -> State {
     let mut t = s;
     let mut left = count;
     while 0 < left {
-        t = append(t, image, ops, payload);
+        t = one_more(t, image, ops, payload, once);
         t = trim(t, image, ops, live);
         left -= 1;
     }
@@ -74,7 +85,7 @@ pub fn append_over(
 // A log with `live` records, all of them durable.
 pub fn start(image: &mut [u64], ops: &mut [u64], payload: &[u8], live: u64) -> State {
     let formatted = format(image, ops);
-    let filled = append_over(formatted.state, image, ops, payload, live, live);
+    let filled = append_over(formatted.state, image, ops, payload, live, live, false);
     let forced = force(filled, image, ops, live, 1);
     forced.state
 }

@@ -73,11 +73,11 @@ runs (e ∷ es) s words h f = go (steps s words h e (f .0)) (f .1) (λ t ws g x.
 
 -- ---------------------------------------------------------------- its beginning
 -- a freshly formatted log, with its state in the words
-record Begun (old : List ℕ) (room : ℕ) (t : SystemInC) : Type 0 where
-  granted : (formatEffect noState old room) .reply ≡ ok done
-  words : List ℕ
-  held : Held false ((formatted old room) .state) words
-  is : t ≡ inWords (formatted old room) words
+pub record Begun (old : List ℕ) (room : ℕ) (t : SystemInC) : Type 0 where
+  pub granted : (formatEffect noState old room) .reply ≡ ok done
+  pub words : List ℕ
+  pub held : Held false ((formatted old room) .state) words
+  pub is : t ≡ inWords (formatted old room) words
 
 module _ (old lent : List ℕ) (room : ℕ) (reply : List ℕ) where
   abbrev tests : List Test
@@ -104,7 +104,7 @@ module _ (old lent : List ℕ) (room : ℕ) (reply : List ℕ) where
   }
   decided-begins (failed w) e = absurd (let z : _≡_ {A = ℕ} 0 1 = cc in omega arith)
 
-  begins : (formatInC old lent room reply) .reply ≡ ok done → Begun old room (formattedInC old lent room reply)
+  pub begins : (formatInC old lent room reply) .reply ≡ ok done → Begun old room (formattedInC old lent room reply)
   unfolding formattedInC effectOn
   begins = decided-begins (decided tests (refusedEffect noState) (formatEffect noState old room))
 
@@ -148,7 +148,7 @@ recover-replies s t image room = go (recover-both s t image room)
     go granted-both = refl
     go (refused-both w) = refl
 
-recovers-in : (s : System) (words : List ℕ) → Recovers s → RecoversInC (inWords s words)
+pub recovers-in : (s : System) (words : List ℕ) → Recovers s → RecoversInC (inWords s words)
 unfolding effectOn
 recovers-in s words r = record {
   owes = record {

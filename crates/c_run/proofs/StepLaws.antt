@@ -111,7 +111,8 @@ refused-down false w = refl
 refused-down true w = refl
 
 -- a recovery that power fails in before its first op, which no promise changes
-recovery-feeds : (a : Reply Granted) (count carried : ℕ) (log : AbstractLog) → feed recover a count carried log ≡ log
+pub recovery-feeds : (a : Reply Granted) (count carried : ℕ) (log : AbstractLog)
+    → feed recover a count carried log ≡ log
 unfolding feed feedGranted
 recovery-feeds (ok a) count carried log = refl
 recovery-feeds (refused w) count carried log = refl

@@ -1,41 +1,77 @@
 -- Test 21: whether three words are an op, and the search for the first three that are none.
 -- Cites CrashImages.antt of crash_images.
 use mathlib.Core.Path.{_≡_, refl, sym, _∙_, ap}
-use mathlib.Core.Bool.{Bool, true, false, _&&_}
+use mathlib.Core.Bool.{Bool, true, false, cond, _&&_, _||_}
 use mathlib.Core.List.{List, [], _∷_}
 use mathlib.Core.Option.{none, some}
 use Prim.Native.Nat.{ℕ, suc, _+_, _-_, _*_, _≤_, _<_}
+use native.Mathlib.Decide.{decLt}
 use native.Mathlib.Omega.{arith}
 use native.Mathlib.Numerals.{add-one}
 use lib.ListN.{length, getD, drop}
 use lib.Seq.{drop-cons}
-use lib.Dec.{leb, ltb, eqb}
-use borrow.Author.Tests.{eq-eqb, ne-eqb, le-leb, lt-leb, leb-true, leb-false}
+use lib.Dec.{leb, eqb}
+use borrow.Author.Tests.{ne-eqb, eqb-false, lt-ltb, le-ltb, le-leb, lt-leb, leb-true, leb-false}
 use Rattle.crash_images.specs.CrashImages.{opOk}
-use Rattle.device.specs.ReadOps.{firstOther}
+use Rattle.device.specs.Ops.{Op}
+use Rattle.refusal.specs.Tests.{Reply, ok, refused}
+use Rattle.refusal.specs.declared.Why.{Why}
+use Rattle.device.specs.ReadOps.{opsOf, firstOther}
+use Rattle.crash_images.specs.InnerSteps.{opAt}
+use Rattle.crash_images.proofs.BufferLaws.{ops-at, ops-long}
+use Rattle.call_crash_images.specs.InnerPut.{IsFlush}
 
--- an op of a tag that is neither, a flush from a word outside, and one from a word inside
-pub no-op : (n tag word argument : ℕ) → (tag ≡ 1 → ⊥) → (tag ≡ 2 → ⊥) → false ≡ opOk n tag word argument
-no-op n tag word argument one two = rw (ne-eqb tag 1 one, ne-eqb tag 2 two)
-
-pub flush-outside : (n tag word argument : ℕ) → (tag ≡ 1 → ⊥) → n ≤ word → false ≡ opOk n tag word argument
-flush-outside n tag word argument one h = rw (ne-eqb tag 1 one) (go (eqb tag 2) (leb 1 argument) refl)
+-- an op from a word inside, and from one outside
+pub inside-is : (n tag word argument : ℕ) → word < n
+    → (eqb tag 1 || (eqb tag 2 && (leb 1 argument && leb argument (n - word)))) ≡ opOk n tag word argument
+inside-is n tag word argument h = rw (lt-ltb word n h) (go (eqb tag 1) (leb argument (n - word)) refl)
   where
-    go : (a b : Bool) → leb 1 argument ≡ b → false ≡ (a && (b && leb (word + argument) n))
-    go false b e = refl
-    go true false e = refl
-    go true true e = sym (lt-leb (word + argument) n (omega (arith, leb-true 1 argument e)))
+    go : (s b : Bool) → leb argument (n - word) ≡ b
+        → (s || (eqb tag 2 && (leb 1 argument && b)))
+        ≡ cond s true (eqb tag 2 && (leb 1 argument && leb (word + argument) n))
+    go true b e = refl
+    go false true e = rw (le-leb (word + argument) n (omega (arith, leb-true argument (n - word) e)))
+    go false false e = rw (lt-leb (word + argument) n (omega (arith, leb-false argument (n - word) e)))
 
-pub flush-inside : (n tag word argument : ℕ) → (tag ≡ 1 → ⊥) → tag ≡ 2 → word < n
-    → (leb 1 argument && leb argument (n - word)) ≡ opOk n tag word argument
-flush-inside n tag word argument one two h = rw (ne-eqb tag 1 one, eq-eqb tag 2 two) (go (leb argument (n - word)) refl)
+pub outside-is : (n tag word argument : ℕ) → n ≤ word → false ≡ opOk n tag word argument
+outside-is n tag word argument h = rw (le-ltb word n h) (go (eqb tag 1) (eqb tag 2) (leb 1 argument) refl)
   where
-    go : (b : Bool) → leb argument (n - word) ≡ b → (leb 1 argument && b) ≡ (leb 1 argument && leb (word + argument) n)
-    go true e = rw (le-leb (word + argument) n (omega (arith, leb-true argument (n - word) e)))
-    go false e = rw (lt-leb (word + argument) n (omega (arith, leb-false argument (n - word) e)))
+    go : (s a b : Bool) → leb 1 argument ≡ b → false ≡ cond s false (a && (b && leb (word + argument) n))
+    go true a b e = refl
+    go false false b e = refl
+    go false true false e = refl
+    go false true true e = sym (lt-leb (word + argument) n (omega (arith, leb-true 1 argument e)))
 
-pub store-is : (n tag word argument : ℕ) → tag ≡ 1 → ltb word n ≡ opOk n tag word argument
-store-is n tag word argument one = rw (eq-eqb tag 1 one)
+-- three words of the buffer that begin with another word than 1 are a flush
+pub other-flush : (buffer : List ℕ) (j : ℕ) → j * 3 + 3 ≤ length buffer → (getD buffer (j * 3) 0 ≡ 1 → ⊥)
+    → IsFlush (opAt (opsOf buffer) j)
+other-flush buffer j h tag = rw (ops-at buffer j (ops-long buffer j h), ne-eqb (getD buffer (j * 3) 0) 1 tag) tt
+
+-- a refusal does not pass
+pub not-passed : {w : Why} → _≡_ {A = Reply (Unit {0})} (refused w) (ok tt) → ⊥
+not-passed e = let z : _≡_ {A = ℕ} 0 1 = cc in omega arith
+
+-- the ops looked at: after so many of them no store
+abbrev pub FlushesTo : List Op → ℕ → ℕ → Type 0
+FlushesTo os stores k = (j : ℕ) → stores ≤ j → j < k → IsFlush (opAt os j)
+
+pub no-stores : (os : List Op) → FlushesTo os 0 0
+no-stores os j a b = absurd (omega arith)
+
+pub stores-turn : (buffer : List ℕ) (stores k stores′ : ℕ) → k * 3 + 3 ≤ length buffer
+    → FlushesTo (opsOf buffer) stores k → stores′ ≡ cond (eqb (getD buffer (k * 3) 0) 1) (k + 1) stores
+    → FlushesTo (opsOf buffer) stores′ (k + 1)
+stores-turn buffer stores k stores′ h f e = go (eqb (getD buffer (k * 3) 0) 1) refl e
+  where
+    go : (b : Bool) → eqb (getD buffer (k * 3) 0) 1 ≡ b → stores′ ≡ cond b (k + 1) stores
+        → FlushesTo (opsOf buffer) stores′ (k + 1)
+    go true p q j a l = absurd (omega arith)
+    go false p q j a l = at (decLt j k)
+      where
+        at : Dec (j < k) → IsFlush (opAt (opsOf buffer) j)
+        at (yes m) = f j (omega arith) m
+        at (no m) = let z : j ≡ k = omega arith in
+            rw z (other-flush buffer k h (eqb-false (getD buffer (k * 3) 0) 1 p))
 
 module _ (n : ℕ) (buffer : List ℕ) (k : ℕ) where
   -- a whole group more

@@ -20,7 +20,7 @@ use Rattle.crash_images.proofs.StepLaws.{entries-values}
 use Rattle.crash_images.proofs.StepTotals.{crash-by-steps, left-by-steps}
 use Rattle.crash_images.proofs.BufferLaws.{ops-at, ops-long}
 use Rattle.crash_images.proofs.TableLaws.{entries-any, choice-turn, fill-turn}
-use Rattle.call_crash_images.specs.InnerPut.{Finds, storesTo, storedBy, FlushedOf, FlushedWords, Lowers, NextWord, PutsChoice}
+use Rattle.call_crash_images.specs.InnerPut.{IsFlush, NextStore, Finds, storesTo, storedBy, FlushedOf, FlushedWords, Lowers, NextWord, PutsChoice}
 use Rattle.call_crash_images.specs.declared.Found.{Found}
 
 -- a copy goes on by a word
@@ -66,20 +66,46 @@ flushed-first : (image : List ℕ) (os : List Op) (k : ℕ) → FlushedTo image 
 unfolding storedBy
 flushed-first image os k = λ w. refl
 
-pub flushed-start : (image : List ℕ) (os : List Op) (k : ℕ) (output : List ℕ) → output ≡ image
-    → FlushedTo image os k 0 output
-flushed-start image os k output e = subst (FlushedTo image os k 0) (sym e) (flushed-first image os k)
-
-pub flushed-turn : (image : List ℕ) (os : List Op) (k j : ℕ) (output output′ : List ℕ) → FlushedTo image os k j output
-    → FlushedOf image os k j output output′ → FlushedTo image os k (j + 1) output′
+-- flushes store to no word
+stored-before : (os : List Op) (j d w : ℕ) → ((i : ℕ) → j ≤ i → i < j + d → IsFlush (opAt os i))
+    → storedBy os (j + d) w ≡ storedBy os j w
 unfolding storedBy
-flushed-turn image os k j output output′ f g = λ w. rw (add-one j) (g .each w ∙ go w (storesTo (opAt os j) w) (f w))
+stored-before os j zero w f = let z : j + 0 ≡ j = omega arith in rw z
+stored-before os j (suc d) w f = let z : j + suc d ≡ suc (j + d) = omega arith in
+    rw z (go (opAt os (j + d)) (f (j + d) (omega arith) (omega arith))
+    ∙ stored-before os j d w (λ i a b. f i a (omega arith)))
   where
-    go : (w : ℕ) (b : Bool) → getD output w 0 ≡ cond (storedBy os j w) (flushedAt image os k w) (getD image w 0)
-        → cond b (flushedAt image os k w) (getD output w 0)
-        ≡ cond (b || storedBy os j w) (flushedAt image os k w) (getD image w 0)
-    go w true e = refl
-    go w false e = e
+    go : (o : Op) → IsFlush o → (storesTo o w || storedBy os (j + d) w) ≡ storedBy os (j + d) w
+    go (store x v) g = absurd g
+    go (flush a c) g = refl
+
+module _ (image : List ℕ) (os : List Op) (k end next : ℕ) where
+  flushed-past : (j : ℕ) (output : List ℕ) → NextStore os j end next → FlushedTo image os k j output
+      → FlushedTo image os k next output
+  flushed-past j output n f = λ w. rw (same w) (f w)
+    where
+      same : (w : ℕ) → storedBy os next w ≡ storedBy os j w
+      same w = let z : j + (next - j) ≡ next = omega (arith, n .above) in
+          rw z at (stored-before os j (next - j) w (λ i a b. n .flushes i a (omega arith)))
+
+  -- an image copied, up to the first store
+  pub flushed-start : (output : List ℕ) → output ≡ image → NextStore os 0 end next → FlushedTo image os k next output
+  flushed-start output e n =
+      flushed-past 0 output n (subst (FlushedTo image os k 0) (sym e) (flushed-first image os k))
+
+  -- the word of op j put, up to the next store
+  pub flushed-turn : (j : ℕ) (output output′ : List ℕ) → FlushedTo image os k j output
+      → FlushedOf image os k j output output′ → NextStore os (j + 1) end next → FlushedTo image os k next output′
+  unfolding storedBy
+  flushed-turn j output output′ f g n =
+      flushed-past (j + 1) output′ n
+      (λ w. rw (add-one j) (g .each w ∙ go w (storesTo (opAt os j) w) (f w)))
+    where
+      go : (w : ℕ) (b : Bool) → getD output w 0 ≡ cond (storedBy os j w) (flushedAt image os k w) (getD image w 0)
+          → cond b (flushedAt image os k w) (getD output w 0)
+          ≡ cond (b || storedBy os j w) (flushedAt image os k w) (getD image w 0)
+      go w true e = refl
+      go w false e = e
 
 pub flushed-all : (image : List ℕ) (os : List Op) (k : ℕ) (output : List ℕ) → FlushedTo image os k k output
     → FlushedWords image os k output

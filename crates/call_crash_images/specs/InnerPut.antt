@@ -1,5 +1,5 @@
--- The parts of the calls: the tests before the crashes are counted, the sum over the points, the point of a number, and
--- the image put by its flushed values and its choices.
+-- The parts of the calls: the tests before the crashes are counted, the ops that can change a table, the sum over the
+-- points, the point of a number, and the image put by its flushed values and its choices.
 -- Cites CrashImages.antt and InnerSteps.antt of crash_images.
 use mathlib.Core.Path.{_≡_}
 use mathlib.Core.Bool.{Bool, false, not, cond, _||_}
@@ -8,7 +8,8 @@ use Prim.Native.Nat.{ℕ, zero, suc, _+_, _/_, _%_, _≤_, _<_}
 use lib.Dec.{eqb}
 use lib.ListN.{length, getD, set}
 use Rattle.device.specs.Ops.{Op, store, flush}
-use Rattle.refusal.specs.Tests.{Test, test}
+use Rattle.refusal.specs.Refusals.{verdictReply}
+use Rattle.refusal.specs.Tests.{ok, Test, test, verdict}
 use Rattle.scan.specs.Open.{imageSizeOk}
 use Rattle.crash_images.specs.CrashImages.{maxCrashes, opOk}
 use Rattle.device.specs.ReadOps.{firstOther}
@@ -16,11 +17,37 @@ use Rattle.refusal.specs.Tests.{opTest}
 use Rattle.crash_images.specs.InnerSteps.{Entry, opAt, flushedAt, entriesIn, entriesOf, valuesOf, tableAt, tableCount, crashesBefore}
 use Rattle.crash_table.specs.InnerTable.{tableRoom}
 use Rattle.call_crash_images.specs.declared.Found.{Found}
+use Rattle.call_crash_images.specs.declared.Tested.{Tested}
 
 -- tests 1 and 21, of an image of n words and room for one
 abbrev pub lentTests : ℕ → ℕ → List ℕ → List Test
 lentTests n room buffer =
     test (not (imageSizeOk n) || not (eqb room n)) 1 0 ∷ opTest (firstOther (opOk n) 0 buffer) ∷ []
+
+-- an op that is a flush
+abbrev pub IsFlush : Op → Type 0
+IsFlush (store x v) = ⊥
+IsFlush (flush f c) = Unit {0}
+
+-- no store comes after so many ops
+pub record LastStore (os : List Op) (stores : ℕ) : Type 0 where
+  pub flushes : (j : ℕ) → stores ≤ j → j < length os → IsFlush (opAt os j)
+
+-- the verdict of tests, and where it passes the ops up to the last store
+pub record Tests (ts : List Test) (os : List Op) (r : Tested) : Type 0 where
+  pub verdict : verdictReply (r .verdict) ≡ verdict ts
+  pub stores : verdictReply (r .verdict) ≡ ok tt → LastStore os (r .stores)
+
+-- from op k on there are only flushes before op r, which is at most the one at the end
+pub record NextStore (os : List Op) (k end r : ℕ) : Type 0 where
+  pub above : k ≤ r
+  pub below : r ≤ end
+  pub flushes : (j : ℕ) → k ≤ j → j < r → IsFlush (opAt os j)
+
+-- the same, and op r is op k unless a table of len entries has none
+pub record NextChange (os : List Op) (k end len r : ℕ) : Type 0 where
+  pub next : NextStore os k end r
+  pub empty : k < r → len ≡ 0
 
 -- a sum that is the total, unless both are more than the most
 pub record Totals (r total : ℕ) : Type 0 where

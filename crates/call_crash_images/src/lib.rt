@@ -19,8 +19,7 @@ ghost use Prim.Native.Nat.{_+_, _*_, _/_, _≤_, _<_};
 ghost use lib.Dec.{eqb};
 ghost use lib.ListN.{length, getD};
 ghost use Rattle.device.specs.Lent.{given, left, room};
-ghost use Rattle.refusal.specs.Refusals.{verdictReply};
-ghost use Rattle.refusal.specs.Tests.{ok, verdict};
+ghost use Rattle.refusal.specs.Tests.{ok};
 ghost use Rattle.crash_images.specs.Answered.{answered};
 ghost use Rattle.crash_images.specs.CrashImages.{opOk, maxCrashes, total, countReply};
 ghost use Rattle.device.specs.ReadOps.{opsOf, firstOther};
@@ -28,7 +27,7 @@ ghost use Rattle.refusal.specs.Tests.{opTest};
 ghost use Rattle.crash_images.specs.CrashImages.{imageLeft, crashNumber, crashReply, pointReply, outputLeft};
 ghost use Rattle.crash_images.specs.InnerSteps.{entriesIn, valuesOf, wordsBy, GoodOps};
 ghost use Rattle.crash_table.specs.InnerTable.{tableRoom};
-ghost use Rattle.call_crash_images.specs.InnerPut.{lentTests, Totals, Finds, FlushedOf, FlushedWords, Lowers, NextWord, PutsChoice};
+ghost use Rattle.call_crash_images.specs.InnerPut.{lentTests, LastStore, Tests, NextStore, NextChange, Totals, Finds, FlushedOf, FlushedWords, Lowers, NextWord, PutsChoice};
 
 // The most crashes that are told apart.
 pub const MAX_CRASHES: u64 = 4096;
@@ -37,50 +36,111 @@ pub const MAX_CRASHES: u64 = 4096;
 fn op_ok(n: u64, tag: u64, word: u64, argument: u64) -> bool
     ensures { λ r. ⌜ r ≡ opOk n tag word argument ⌝ }
 {
-    if tag == 1 {
-        return word < n;
-    }
-    if tag == 2 {
-        if word < n {
-            return (1 <= argument) & (argument <= n - word);
-        }
+    if word < n {
+        return (tag == 1) | ((tag == 2) & ((1 <= argument) & (argument <= n - word)));
     }
     false
 }
 
+// A verdict on an op buffer, and how many of its ops there are up to the last store: the others are flushes.
+pub struct Tested {
+    pub verdict: Verdict,
+    pub stores: usize,
+}
+
+// How many ops there are up to the last store, with one more looked at: op k - 1, of that tag.
+fn stores_with(stores: usize, tag: u64, k: usize) -> usize
+    ensures { λ r. ⌜ r ≡ cond (eqb tag 1) k stores ⌝ }
+{
+    if tag == 1 {
+        return k;
+    }
+    stores
+}
+
 // The verdict of test 21: the lowest number of an op that is not one.
-fn bad_op(n: usize, ops: &[u64]) -> Verdict
-    ensures { λ r. ⌜ verdictReply r ≡ verdict (opTest (firstOther (opOk n) 0 (given ops)) ∷ []) ⌝ }
+fn bad_op(n: usize, ops: &[u64]) -> Tested
+    ensures { λ r. ⌜ Tests (opTest (firstOther (opOk n) 0 (given ops)) ∷ []) (opsOf (given ops)) r ⌝ }
 {
     let mut k: usize = 0;
+    let mut stores: usize = 0;
     while k * 3 + 3 <= ops.len() {
         let at = k * 3;
         if !op_ok(n as u64, ops[at], ops[at + 1], ops[at + 2]) {
-            return Verdict::Fail(Refusal::BadOp(k as u64));
+            return Tested {
+                verdict: Verdict::Fail(Refusal::BadOp(k as u64)),
+                stores: 0,
+            };
         }
         k += 1;
+        stores = stores_with(stores, ops[at], k);
     }
     if k * 3 < ops.len() {
-        return Verdict::Fail(Refusal::BadOp(k as u64));
+        return Tested {
+            verdict: Verdict::Fail(Refusal::BadOp(k as u64)),
+            stores: 0,
+        };
     }
-    Verdict::Pass
+    Tested {
+        verdict: Verdict::Pass,
+        stores,
+    }
 }
 
-// How many crashes there are in all; where they are more than 4,096, how many at the points up to the one that passes it.
-fn total_of(image: &[u64], ops: &[u64]) -> u64
-    requires { ⌜ GoodOps (length (now image)) (now ops) ⌝ }
+// The lower of two counts.
+fn fewer(a: usize, b: usize) -> usize
+    ensures { λ r. ⌜ (r ≤ a) × (r ≤ b) × (r < b → r ≡ a) ⌝ }
+{
+    if a < b {
+        return a;
+    }
+    b
+}
+
+// The first op from k on, below end, that is a store; end if there is none. From op `stores` on there is none.
+fn next_store(ops: &[u64], stores: usize, k: usize, end: usize) -> usize
+    requires { ⌜ LastStore (opsOf (now ops)) stores × (k ≤ end) × (end * 3 ≤ length (now ops)) ⌝ }
+    ensures { λ r. ⌜ NextStore (opsOf (given ops)) k end r ⌝ }
+{
+    let to = fewer(stores, end);
+    let mut j = k;
+    while j < to {
+        if ops[j * 3] == 1 {
+            return j;
+        }
+        j += 1;
+    }
+    end
+}
+
+// The first op from k on, below end, that can change a table of len entries: op k, or the next store if there are none.
+fn next_change(ops: &[u64], stores: usize, k: usize, end: usize, len: usize) -> usize
+    requires { ⌜ LastStore (opsOf (now ops)) stores × (k ≤ end) × (end * 3 ≤ length (now ops)) ⌝ }
+    ensures { λ r. ⌜ NextChange (opsOf (given ops)) k end len r ⌝ }
+{
+    if len == 0 {
+        return next_store(ops, stores, k, end);
+    }
+    k
+}
+
+// How many crashes there are in all; where they are more than 4,096, how many at the points up to one where they are. A
+// flush of an empty table leaves one image, so that such flushes are only counted.
+fn total_of(image: &[u64], ops: &[u64], stores: usize) -> u64
+    requires { ⌜ GoodOps (length (now image)) (now ops) × LastStore (opsOf (now ops)) stores ⌝ }
     ensures { λ r. ⌜ Totals r (total (given image) (opsOf (given ops))) ⌝ }
 {
     let mut words = [0u64; TABLE_ROOM];
     let mut values = [0u64; TABLE_ROOM];
     let mut size = Size { len: 0, images: 1 };
-    let mut sum: u64 = 1;
-    let mut k: usize = 0;
     let count = ops.len() / 3;
+    let mut k = next_store(ops, stores, 0, count);
+    let mut sum = 1 + k as u64;
     while (k < count) & (sum <= MAX_CRASHES) {
         size = table_after(image, ops, k, &mut words, &mut values, size);
-        sum += size.images;
-        k += 1;
+        let next = next_change(ops, stores, k + 1, count, size.len);
+        sum += size.images + (next - k - 1) as u64;
+        k = next;
     }
     sum
 }
@@ -93,21 +153,32 @@ pub struct Found {
 }
 
 // Crash number i, with the table at its point left in words and values.
-fn find_crash(image: &[u64], ops: &[u64], i: u64, words: &mut [u64], values: &mut [u64]) -> Found
+fn find_crash(
+    image: &[u64],
+    ops: &[u64],
+    stores: usize,
+    i: u64,
+    words: &mut [u64],
+    values: &mut [u64],
+) -> Found
     requires { ⌜
-        GoodOps (length (now image)) (now ops) × (i < total (now image) (opsOf (now ops)))
-        × (total (now image) (opsOf (now ops)) ≤ maxCrashes)
+        GoodOps (length (now image)) (now ops) × LastStore (opsOf (now ops)) stores
+        × (i < total (now image) (opsOf (now ops))) × (total (now image) (opsOf (now ops)) ≤ maxCrashes)
         × (tableRoom ≤ length (now words)) × (tableRoom ≤ length (now values))
         ⌝ }
     ensures { λ r. ⌜ Finds (given image) (opsOf (given ops)) i r (left words) (left values) ⌝ }
 {
     let mut size = Size { len: 0, images: 1 };
-    let mut left = i;
-    let mut k: usize = 0;
+    let count = ops.len() / 3;
+    let mut k = next_store(ops, stores, 0, fewer(count, i as usize));
+    let mut left = i - k as u64;
     while size.images <= left {
         left -= size.images;
         size = table_after(image, ops, k, words, values, size);
-        k += 1;
+        let end = fewer(count, k + 1 + left as usize);
+        let next = next_change(ops, stores, k + 1, end, size.len);
+        left -= (next - k - 1) as u64;
+        k = next;
     }
     Found {
         point: k,
@@ -145,17 +216,18 @@ fn put_flushed_of(image: &[u64], ops: &[u64], k: usize, j: usize, output: &mut [
 }
 
 // Puts the values that are flushed after k ops.
-fn put_flushed(image: &[u64], ops: &[u64], k: usize, output: &mut [u64])
+fn put_flushed(image: &[u64], ops: &[u64], stores: usize, k: usize, output: &mut [u64])
     requires { ⌜
-        GoodOps (length (now image)) (now ops) × (length (now image) ≡ length (now output)) × (k * 3 ≤ length (now ops))
+        GoodOps (length (now image)) (now ops) × LastStore (opsOf (now ops)) stores
+        × (length (now image) ≡ length (now output)) × (k * 3 ≤ length (now ops))
         ⌝ }
     ensures { λ _. ⌜ FlushedWords (given image) (opsOf (given ops)) k (left output) ⌝ }
 {
     copy_image(image, output);
-    let mut j = 0;
+    let mut j = next_store(ops, stores, 0, k);
     while j < k {
         put_flushed_of(image, ops, k, j, output);
-        j += 1;
+        j = next_store(ops, stores, j + 1, k);
     }
 }
 
@@ -256,9 +328,10 @@ fn put_choices(words: &[u64], values: &[u64], len: usize, m: u64, output: &mut [
 }
 
 // Puts the image of crash number i, and answers its point.
-fn put_crash(image: &[u64], ops: &[u64], i: u64, output: &mut [u64]) -> CrashAnswer
+fn put_crash(image: &[u64], ops: &[u64], stores: usize, i: u64, output: &mut [u64]) -> CrashAnswer
     requires { ⌜
-        GoodOps (length (now image)) (now ops) × (length (now image) ≡ length (now output))
+        GoodOps (length (now image)) (now ops) × LastStore (opsOf (now ops)) stores
+        × (length (now image) ≡ length (now output))
         × (i < total (now image) (opsOf (now ops))) × (total (now image) (opsOf (now ops)) ≤ maxCrashes)
         ⌝ }
     ensures { λ r. ⌜
@@ -268,21 +341,27 @@ fn put_crash(image: &[u64], ops: &[u64], i: u64, output: &mut [u64]) -> CrashAns
 {
     let mut words = [0u64; TABLE_ROOM];
     let mut values = [0u64; TABLE_ROOM];
-    let found = find_crash(image, ops, i, &mut words, &mut values);
-    put_flushed(image, ops, found.point, output);
+    let found = find_crash(image, ops, stores, i, &mut words, &mut values);
+    put_flushed(image, ops, stores, found.point, output);
     put_choices(&words, &values, found.len, found.choice, output);
     CrashAnswer::Number(found.point as u64)
 }
 
 // The verdict of tests 1 and 21, of an image of n words and room for one of so many.
-fn lent_verdict(n: usize, room: usize, ops: &[u64]) -> Verdict
-    ensures { λ r. ⌜ verdictReply r ≡ verdict (lentTests n room (given ops)) ⌝ }
+fn lent_verdict(n: usize, room: usize, ops: &[u64]) -> Tested
+    ensures { λ r. ⌜ Tests (lentTests n room (given ops)) (opsOf (given ops)) r ⌝ }
 {
     if !image_size_ok(n) {
-        return Verdict::Fail(Refusal::ImageSize);
+        return Tested {
+            verdict: Verdict::Fail(Refusal::ImageSize),
+            stores: 0,
+        };
     }
     if room != n {
-        return Verdict::Fail(Refusal::ImageSize);
+        return Tested {
+            verdict: Verdict::Fail(Refusal::ImageSize),
+            stores: 0,
+        };
     }
     bad_op(n, ops)
 }
@@ -291,11 +370,12 @@ fn lent_verdict(n: usize, room: usize, ops: &[u64]) -> Verdict
 pub fn crash_count(image: &[u64], ops: &[u64]) -> CrashAnswer
     ensures { λ r. ⌜ answered r ≡ countReply (given image) (given ops) ⌝ }
 {
-    let verdict = lent_verdict(image.len(), image.len(), ops);
+    let tested = lent_verdict(image.len(), image.len(), ops);
+    let verdict = tested.verdict;
     if let Verdict::Fail(refusal) = verdict {
         return CrashAnswer::Refused(refusal);
     }
-    let total = total_of(image, ops);
+    let total = total_of(image, ops, tested.stores);
     if MAX_CRASHES < total {
         return CrashAnswer::Refused(Refusal::TooManyCrashes);
     }
@@ -311,16 +391,17 @@ pub fn crash_image(image: &[u64], ops: &[u64], i: u64, output: &mut [u64]) -> Cr
         (given output))
         ⌝ }
 {
-    let verdict = lent_verdict(image.len(), output.len(), ops);
+    let tested = lent_verdict(image.len(), output.len(), ops);
+    let verdict = tested.verdict;
     if let Verdict::Fail(refusal) = verdict {
         return CrashAnswer::Refused(refusal);
     }
-    let total = total_of(image, ops);
+    let total = total_of(image, ops, tested.stores);
     if MAX_CRASHES < total {
         return CrashAnswer::Refused(Refusal::TooManyCrashes);
     }
     if total <= i {
         return CrashAnswer::Refused(Refusal::NoSuchCrash);
     }
-    put_crash(image, ops, i, output)
+    put_crash(image, ops, tested.stores, i, output)
 }

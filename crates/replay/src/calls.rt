@@ -43,6 +43,9 @@ fn write(
     if number == 16 {
         return drivelog::release_all(s, image, ops);
     }
+    if number == 18 {
+        return drivelog::append(s, image, ops, first, bytes, second);
+    }
     drivelog::recover(image, ops)
 }
 
@@ -75,7 +78,7 @@ fn goes_on(number: u64, answer: Answer) -> bool {
 }
 
 // Makes a command's call, if it has one, on the state and the cursor that are kept, and keeps the state that it
-// returns. `bytes` are those of a copy or of a fetch.
+// returns. `bytes` are those of a copy, of an append or of a fetch.
 pub fn make(
     c: Command,
     cursor: Cursor,

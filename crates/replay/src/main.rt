@@ -17,7 +17,8 @@ use replay_script::setup::fill_words;
 use replay_script::setup::set;
 use words_state::STATE_WORDS;
 
-// Carries a command out on the used words, and answers the cursor after it. `bytes` are those of a copy or of a fetch.
+// Carries a command out on the used words, and answers the cursor after it. `bytes` are those of a copy, of an append or
+// of a fetch.
 fn act(
     c: Command,
     cursor: Cursor,
@@ -41,8 +42,8 @@ struct Kept {
     ops_used: u64,
 }
 
-// Carries a command out on the used words, and on as many bytes as its third argument says, those of a copy or of a
-// fetch. All are within the limits.
+// Carries a command out on the used words, and on as many bytes as its third argument says, those of a copy, of an append
+// or of a fetch. All are within the limits.
 fn carry_out(
     c: Command,
     kept: Kept,

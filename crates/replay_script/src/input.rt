@@ -1,8 +1,9 @@
-// Commands of the script, off standard input: each with its arguments, within the limits, and a copy's bytes with it.
+// Commands of the script, off standard input: each with its arguments, within the limits, and the bytes of a copy or an
+// append with it.
 use libc::STDIN_FILENO;
 use libc::STDOUT_FILENO;
 
-// The most words of the image and of the op buffer, and bytes of a copy or a fetch.
+// The most words of the image and of the op buffer, and bytes of a copy, an append or a fetch.
 pub const MAX_IMAGE: usize = 9000;
 
 pub const MAX_OPS: usize = 26000;
@@ -62,7 +63,7 @@ fn argument_count(number: u64) -> u64 {
         0 | 10 | 16 | 17 | 20 | 21 | 31 => 0,
         13 | 15 => 1,
         1 | 2 | 3 | 4 | 11 | 14 | 30 => 2,
-        12 | 22 => 3,
+        12 | 18 | 22 => 3,
         5 | 6 => 6,
         _ => 7,
     }
@@ -72,7 +73,7 @@ fn argument_count(number: u64) -> u64 {
 fn is_too_large(number: u64, first: u64, third: u64) -> bool {
     ((number == 1) & (first > MAX_IMAGE as u64))
         | ((number == 3) & (first > MAX_OPS as u64))
-        | (((number == 12) | (number == 22)) & (third > MAX_BYTES as u64))
+        | (((number == 12) | (number == 18) | (number == 22)) & (third > MAX_BYTES as u64))
 }
 
 // Prints that a word is no command, or that a command exceeds a limit. Answers 0, the end of the script.
@@ -95,8 +96,8 @@ fn read_number() -> u64 {
     word.value
 }
 
-// The number of a command whose arguments are read, once the bytes of a copy are too; 0 if the input cut it off or it
-// exceeds a limit.
+// The number of a command whose arguments are read, once the bytes of a copy or an append are too; 0 if the input cut it
+// off or it exceeds a limit.
 fn accepted(number: u64, is_whole: bool, first: u64, third: u64, bytes: &mut [u8]) -> u64 {
     if !is_whole {
         return 0;
@@ -104,7 +105,7 @@ fn accepted(number: u64, is_whole: bool, first: u64, third: u64, bytes: &mut [u8
     if is_too_large(number, first, third) {
         return bad(number);
     }
-    if number == 12 {
+    if (number == 12) | (number == 18) {
         if !read_bytes(bytes, third) {
             return 0;
         }
@@ -112,7 +113,7 @@ fn accepted(number: u64, is_whole: bool, first: u64, third: u64, bytes: &mut [u8
     number
 }
 
-// Reads the next command, and the bytes after a copy.
+// Reads the next command, and the bytes after a copy or an append.
 pub fn read_command(bytes: &mut [u8]) -> Command {
     let number = read_number();
     let count = argument_count(number);

@@ -47,6 +47,7 @@ fn put_call(out: &mut [u8; TEXT_SIZE], number: u64) {
         15 => put_text(out, b"release"),
         16 => put_text(out, b"releaseall"),
         17 => put_text(out, b"takeup"),
+        18 => put_text(out, b"append"),
         20 => put_text(out, b"open"),
         21 => put_text(out, b"next"),
         _ => put_text(out, b"fetch"),

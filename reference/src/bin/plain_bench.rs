@@ -4,7 +4,8 @@
 //! Jobs: 1 append, 2 CRC-32, 3 recover, 4 list. Jobs 5 to 7 read an image of so many words behind the five numbers and get, in one pass,
 //! what tests/bench/calls.c gets call by call: 5 the number of listed records, 6 the last of them, 7 all of them. Jobs 9 to 11 recover it as
 //! tests/bench/three.c does: 9 alone, 10 with two copies of it, 11 with one of the copies to repair. Job 12 vets 1,000 ops as tests/bench/vet.c does. Jobs 13 and 14
-//! ask for crashes by number, as tests/bench/crashes.c does. Job 1000 + k is the release of the head with k released records behind it, 2000 + k one that is refused behind the soundness test.
+//! ask for crashes by number, as tests/bench/crashes.c does. Job 15 is job 1 with the one call for an append, job 16 that call with no
+//! release, as tests/bench/append.c makes it. Job 1000 + k is the release of the head with k released records behind it, 2000 + k one that is refused behind the soundness test.
 
 use reference::calls::Done;
 use reference::layout::{words_of_bytes, TABLE_SIZE};
@@ -68,6 +69,12 @@ impl Log {
             let _ = plain::complete(image, op_buffer, state, lsn);
             let _ = plain::force(image, op_buffer, state, lsn, 8);
         }
+    }
+
+    /// The same in one call.
+    fn append_once(&mut self) {
+        let Log { image, op_buffer, state, payload } = self;
+        let _ = black_box(plain::append(image, op_buffer, state, 1, payload, 8));
     }
 
     /// Gives the oldest durable records back until no more than `live` are left.
@@ -203,6 +210,30 @@ fn run(job: u64, bytes: u64, live: u64, count: u64, words: usize) -> Option<(i64
                 for _ in 0..count {
                     log.append();
                     log.trim(live);
+                }
+            });
+            Some((time, plain::crc32_of_words(&log.image)))
+        }
+        15 => {
+            let mut log = Log::with_live(words, payload, live);
+            let time = time(|| {
+                for _ in 0..count {
+                    log.append_once();
+                    log.trim(live);
+                }
+            });
+            Some((time, plain::crc32_of_words(&log.image)))
+        }
+        16 => {
+            let mut log = Log::with_live(words, payload, live);
+            let now = log.state.clone();
+            let time = time(|| {
+                for i in 0..count {
+                    // Every eighth is followed by the state as it was.
+                    if i % 8 == 0 {
+                        log.state.clone_from(black_box(&now));
+                    }
+                    log.append_once();
                 }
             });
             Some((time, plain::crc32_of_words(&log.image)))

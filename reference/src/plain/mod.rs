@@ -17,7 +17,7 @@ mod table;
 mod three;
 mod vet;
 
-pub use calls::{complete, copy, force, format, recover, release, reserve};
+pub use calls::{append, complete, copy, force, format, recover, release, reserve};
 pub use crashes::{crash_count, crash_image};
 pub use crc::{crc32_of_bytes, crc32_of_words};
 pub use list::list;

@@ -1,7 +1,9 @@
 -- `call_crash_images::crash_count` meets its contract. Cites CallLaws.antt.
+use mathlib.Core.Path.{ap}
 use lib.ListN.{length}
 use denote.Ref.{now}
 use borrow.Author.Needs.{needs}
+use Rattle.refusal.specs.Refusals.{verdictReply}
 use Rattle.refusal.proofs.RowLaws.{none-failed, came-to}
 use Rattle.call_crash_images.specs.InnerPut.{lentTests}
 use Rattle.call_crash_images.proofs.CallLaws.{Fine, fine, fine-ops, count-refused, count-over, count-granted}
@@ -15,7 +17,7 @@ returns c =
     count-refused (now (a .image)) (now (a .ops))
     (came-to (lentTests (length (now (a .image))) (length (now (a .image))) (now (a .ops)))
     (c .before .verdict .given .1)
-    (v .lent-verdict .ensures))
+    (v .lent-verdict .ensures .verdict))
 
 -- the words lent pass
 passed : (c : tie.After-enum-told) → let a = c .before .before .before .before .before .args in
@@ -25,10 +27,11 @@ passed c =
     let a = v .before .before .before .args in
     let n = length (now (a .image)) in
     fine n n (now (a .ops))
-    (none-failed (lentTests n n (now (a .ops))) (c .enum-told .given .1) (v .lent-verdict .ensures))
+    (none-failed (lentTests n n (now (a .ops))) (c .enum-told .given .1) (v .lent-verdict .ensures .verdict))
 
 total-of-requires : tie.Need-total-of-requires
-total-of-requires c κs = fine-ops (passed c)
+total-of-requires c κs =
+    (fine-ops (passed c), c .before .before .lent-verdict .ensures .stores (ap verdictReply (c .enum-told .given .1)))
 
 returns-2 : tie.Need-returns-2
 returns-2 c =

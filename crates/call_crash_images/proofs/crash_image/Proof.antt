@@ -1,14 +1,15 @@
 -- `call_crash_images::crash_image` meets its contract. Cites CallLaws.antt.
-use mathlib.Core.Path.{_≡_, sym}
+use mathlib.Core.Path.{_≡_, sym, ap}
 use Prim.Native.Nat.{_≤_}
 use native.Mathlib.Omega.{arith}
 use lib.ListN.{length}
 use denote.Ref.{now}
 use borrow.Author.Needs.{needs}
+use Rattle.refusal.specs.Refusals.{verdictReply}
 use Rattle.refusal.proofs.RowLaws.{none-failed, came-to}
 use Rattle.crash_images.specs.CrashImages.{maxCrashes, total}
 use Rattle.device.specs.ReadOps.{opsOf}
-use Rattle.call_crash_images.specs.InnerPut.{lentTests}
+use Rattle.call_crash_images.specs.InnerPut.{lentTests, LastStore}
 use Rattle.call_crash_images.proofs.CallLaws.{Fine, fine, fine-ops, crash-refused, crash-over, crash-none, crash-granted, says-refused, says-granted}
 use Rattle.call_crash_images.proofs.crash_image.Statement.{statement}
 use Rattle.call_crash_images.proofs.crash_image.Tie as tie
@@ -21,7 +22,7 @@ returns c =
     (crash-refused (now (a .image)) (now (a .ops)) (a .i) (length (now (a .output)))
     (came-to (lentTests (length (now (a .image))) (length (now (a .output))) (now (a .ops)))
     (c .before .verdict .given .1)
-    (v .lent-verdict .ensures)))
+    (v .lent-verdict .ensures .verdict)))
 
 -- the words lent pass
 passed : (c : tie.After-enum-told) → let a = c .before .before .before .before .before .before .args in
@@ -32,10 +33,16 @@ passed c =
     fine (length (now (a .image))) (length (now (a .output))) (now (a .ops))
     (none-failed (lentTests (length (now (a .image))) (length (now (a .output))) (now (a .ops)))
     (c .enum-told .given .1)
-    (v .lent-verdict .ensures))
+    (v .lent-verdict .ensures .verdict))
+
+-- and no store comes after those that the tests saw
+last-store : (c : tie.After-enum-told)
+    → LastStore (opsOf (now (c .before .before .before .before .before .before .args .ops)))
+    ((c .before .before .lent-verdict .result) .stores)
+last-store c = c .before .before .lent-verdict .ensures .stores (ap verdictReply (c .enum-told .given .1))
 
 total-of-requires : tie.Need-total-of-requires
-total-of-requires c κs = fine-ops (passed c)
+total-of-requires c κs = (fine-ops (passed c), last-store c)
 
 returns-2 : tie.Need-returns-2
 returns-2 c =
@@ -65,7 +72,7 @@ put-crash-requires c κs =
     let l = c .before .before in
     let f = passed (l .before .before) in
     let e = summed l in
-    (fine-ops f, sym (f .same), omega (arith, e .0, c .before .if2 .left), e .1)
+    (fine-ops f, last-store (l .before .before), sym (f .same), omega (arith, e .0, c .before .if2 .left), e .1)
 
 returns-4 : tie.Need-returns-4
 returns-4 c =

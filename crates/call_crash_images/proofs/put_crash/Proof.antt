@@ -20,7 +20,7 @@ returns c =
           (f .find-crash .ensures)),
       found-image (now (a .image)) (now (a .ops)) (s .pre .0) (a .i) (f .find-crash .result) _ _
           (f .find-crash .ensures)
-          (q .put-flushed .ensures) (q .put-flushed .kept .1 .1 .1 .0 ∙ sym (s .pre .1)) (p .put-choices .ensures),
+          (q .put-flushed .ensures) (q .put-flushed .kept .1 .1 .1 .1 .0 ∙ sym (s .pre .2)) (p .put-choices .ensures),
     )
 
 pub put-crash-spec : {M : Type 1} → statement M

@@ -7,11 +7,11 @@ use Rattle.bench.proofs.log.append_over.Statement.{statement}
 use Rattle.bench.proofs.log.append_over.Tie as tie
 
 abbrev Inv-loop : tie.InvT-loop
-Inv-loop image₀ ops₀ payload live count t₀ left₀ image ops t left = (length image ≡ length image₀)
+Inv-loop image₀ ops₀ payload live count once t₀ left₀ image ops t left = (length image ≡ length image₀)
     × (length ops ≡ length ops₀)
 
 abbrev μ-loop : tie.MeasureT-loop
-μ-loop image₀ ops₀ payload live count t₀ left₀ image ops t left = left
+μ-loop image₀ ops₀ payload live count once t₀ left₀ image ops t left = left
 
 pub append-over-spec : {M : Type 1} → statement M
 append-over-spec =
