@@ -270,7 +270,7 @@ int64_t drivelog_payload_at(const uint8_t *image, size_t bytes, uint64_t pos, ui
  *
  * Every call answers for every input, as its definition in crates/ says (docs/PROOF.md has the map); that is proved, and so is what a
  * crash leaves of a log that these calls format and write, each lent the state's words and the image that the one before left, and after
- * a crash any words; with drivelog_append among them that is proved of the definitions. Counts are of words, not bytes; an image's words are little-endian in bytes.
+ * a crash any words. Counts are of words, not bytes; an image's words are little-endian in bytes.
  *
  * Memory: each pointer is to as many words as the count after it says, `bytes` to `count` bytes. They need the alignment of their
  * type. Where the count is 0 the pointer is not followed and may be null. What is written may overlap nothing else that is lent to

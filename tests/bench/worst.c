@@ -354,7 +354,7 @@ static const struct job jobs[] = {
     {"drivelog_payload", payload_of, full_long, WORDS, 256, 0, "wl", "the image full with 256 records, the newest with 1,024 bytes"},
     {"drivelog_list", list, full_odd, WORDS, 256, 0, "wl", "as drivelog_count, with a row for each of 256 records"},
     {"drivelog_list", list, full_round, WORDS, 256, 0, "wl", "as drivelog_count, with a row for each of 256 records"},
-    {"drivelog_payload_at", payload_at, one_record, WORDS, 1, 1024, "wb", "# bytes round the ring's end; all bytes of the image become words"},
+    {"drivelog_payload_at", payload_at, one_record, WORDS, 1, 1024, "wb", "# bytes round the ring's end"},
     {"drivelog_state_words", state_words, empty, WORDS, 0, 0, "", "always the same"},
     {"drivelog_format", format, no_log, WORDS, 0, 0, "w", "whatever state and image hold"},
     {"drivelog_reserve", reserve, before_reserve, WORDS, 255, 1024, "wlb", "255 live records are tested; a record of # bytes, round the ring's end"},
