@@ -2,6 +2,8 @@
 // words: job, bytes of a record, live records, how often, words of the image. It prints the microseconds and a CRC-32
 // of what the job left, by which `reference bench` sees that another program did the same work. Words that make no job
 // get no line. The contracts say only that the used parts stay inside the arrays.
+#![tactic(auto)]
+
 mod jobs;
 mod log;
 mod room;

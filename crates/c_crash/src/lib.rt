@@ -2,6 +2,8 @@
 // words that the caller lends. A reply of four words says the refusal's number and detail; count and second value are 0. A
 // call returns its value, or minus the refusal's number. A refused call alters no word but the reply's, and one whose
 // reply is short alters none. The contracts cite specs/CrashCalls.antt; those of inner functions specs/InnerReport.antt.
+#![tactic(auto)]
+
 ghost use Rattle.std.specs.Prelude.{◌≤◌, length};
 ghost use Rattle.device.specs.Lent.{given, left};
 ghost use Rattle.c_reply.specs.ReplyWords.{reply_size};

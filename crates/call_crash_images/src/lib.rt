@@ -2,6 +2,8 @@
 // once it is known that there is one of its number: the image is copied, the words that ops store to get their flushed
 // values, and then those of the table their choices. The contracts cite specs/CrashImages.antt of crash_images; those of
 // inner functions its specs/InnerSteps.antt and specs/InnerPut.antt.
+#![tactic(auto)]
+
 ghost use Rattle.std.specs.Prelude.{◌≡◌, cond, ◌&&◌, [], ◌∷◌, ◌+◌, ◌*◌, ◌/◌, ◌≤◌, ◌<◌, eqb, length, get_or};
 ghost use Rattle.device.specs.Lent.{given, left, room};
 ghost use Rattle.refusal.specs.Tests.{ok};

@@ -1,6 +1,8 @@
 // The table by which crashes are counted: the values stored since the last flush of their word, the oldest first, without
 // the flushed one and without repeats, in two lent slices. What is flushed is read from the op buffer. The contracts cite
 // specs/InnerSteps.antt of crash_images and specs/InnerTable.antt.
+#![tactic(auto)]
+
 ghost use Rattle.std.specs.Prelude.{◌≡◌, true, false, cond, ◌&&◌, ◌||◌, ℕ, suc, ◌+◌, ◌*◌, ◌/◌, ◌≤◌, ◌<◌, eqb, length};
 ghost use Rattle.device.specs.Crash.{within};
 ghost use Rattle.device.specs.Lent.{given, left};

@@ -1,5 +1,7 @@
 // The program crc_check: prints the proved CRC-32 of inputs whose values are published, a line of eight hex digits
 // each. The file stdout has the published values: nothing, "a", "123456789", 32 bytes of 00, of FF, and 00 to 1F.
+#![tactic(auto)]
+
 use crc32::crc_bytes;
 use libc::STDOUT_FILENO;
 

@@ -6,6 +6,8 @@
 // a match on the numbers below 256 for one on signed bytes, and adds an instruction to each look. Each arm returns, and
 // the byte is moved up in its own place: what is to be proved of an arm is then a third less than after a `let` and
 // with a value of the match. The contracts cite crate crc_spec, specs/Bits.antt.
+#![tactic(auto)]
+
 ghost use Rattle.std.specs.Prelude.{◌≡◌, ◌<◌};
 ghost use Rattle.crc_spec.specs.Bits.{crc_bits};
 

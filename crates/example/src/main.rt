@@ -1,6 +1,8 @@
 // The program example: a caller of the library. It appends records to a log on a module of 64 words, loses power in the
 // middle of a force, recovers the log from what the module holds, and prints the log's listing. `reference example`
 // makes the same history with calls of its own; the file stdout is its text.
+#![tactic(auto)]
+
 use drivelog::{Answer, State};
 use libc::STDOUT_FILENO;
 use list_image::{Listed, list_image, listing_room};

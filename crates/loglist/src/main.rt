@@ -1,5 +1,7 @@
 // The program loglist: reads an image's bytes from standard input and prints the records that it lists. What it prints
 // is `bytesText` of what it reads, by the contract of `list_bytes`; that it reads and prints is beyond any contract.
+#![tactic(auto)]
+
 ghost use Rattle.std.specs.Prelude.{◌≡◌, length};
 
 use libc::{STDIN_FILENO, STDOUT_FILENO};

@@ -1,6 +1,8 @@
 // The program logload: reads what loglist prints from standard input, and writes the bytes of an image of 8,192 words
 // that lists the same, or a refusal. The image is `load` of what it reads, by the contract of `load_text`, and the bytes
 // are those of its words; that it reads and writes is beyond any contract.
+#![tactic(auto)]
+
 ghost use Rattle.std.specs.Prelude.{◌≡◌, length};
 ghost use Rattle.crc_spec.specs.Bytes.{word_bytes};
 

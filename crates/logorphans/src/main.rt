@@ -1,6 +1,8 @@
 // The program logorphans: reads an image's bytes from standard input and prints the LSNs of the listed records that name
 // an inspection which no earlier listed record is. What it prints is `orphansText` of what it reads, by the contract of
 // `list_orphans`; that it reads and prints is beyond any contract.
+#![tactic(auto)]
+
 ghost use Rattle.std.specs.Prelude.{◌≡◌, length};
 
 use libc::{STDIN_FILENO, STDOUT_FILENO};

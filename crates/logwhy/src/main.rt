@@ -1,6 +1,8 @@
 // The program logwhy: reads an image's bytes and after them an LSN, 8 bytes, from standard input, and prints why that
 // LSN is listed or not. What it prints is `replyLine (inputWhy ..)` of what it reads, by the contract of `why_line`;
 // that it reads and prints is beyond any contract.
+#![tactic(auto)]
+
 ghost use Rattle.std.specs.Prelude.{◌≡◌, length};
 
 use libc::{STDIN_FILENO, STDOUT_FILENO};

@@ -1,5 +1,7 @@
 // The program replay: reads a script of calls from standard input, makes each call on its own image, op buffer, state
 // and cursor, and prints what each call answered and left after. docs/REPLAY.md has the script's words and the lines.
+#![tactic(auto)]
+
 mod calls;
 mod said;
 

@@ -1,6 +1,8 @@
 // What the program replay reads and prints: the commands of a script, what they set up, and the lines of text. It makes
 // no call of the log. Between the calls the state is in words, as crate words_state has them. docs/REPLAY.md has the
 // script's words and the lines. The contracts say only that the used parts stay inside the arrays.
+#![tactic(auto)]
+
 pub mod digest;
 pub mod input;
 pub mod output;

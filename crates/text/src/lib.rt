@@ -1,6 +1,8 @@
 // Text built in a buffer that the caller lends: bytes, decimal numbers, hex pairs. Each function puts its text from an
 // index on and answers the index after it, so that calls put one text after another.
 // The contracts cite specs/Text.antt.
+#![tactic(auto)]
+
 ghost use Rattle.std.specs.Prelude.{◌≡◌, ◌+◌, ◌*◌, ◌≤◌, ◌<◌, length};
 ghost use Rattle.io.specs.Digits.{hex_digit_ascii};
 ghost use Rattle.text.specs.Text.{decimal_text, hex_text, Appended};
