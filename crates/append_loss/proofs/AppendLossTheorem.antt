@@ -7,7 +7,7 @@ use mathlib.Core.Bool.{false, false≢true}
 use Prim.Native.Nat.{ℕ, ◌-◌, ◌≤◌, ◌<◌}
 use native.Mathlib.Omega.{arith}
 use lib.ListN.{length, take}
-use borrow.Author.Tests.{not_true}
+use borrow.Author.Tests.{not-true}
 use Rattle.refusal.specs.Tests.{ok}
 use Rattle.device.specs.Crash.{Device, carry, CrashImage}
 use Rattle.device.proofs.CrashLaws.{shows_all}
@@ -158,7 +158,7 @@ unfolding AppendLossBoundForced after_append
 append_loss_bound_forced old words granted es f F some-F h over area (event (call g c buffer)) fits fails =
     absurd (false≢true fails)
 append_loss_bound_forced old words granted es f F some-F h over area (event (crash c buffer carried image)) fits fails =
-    forced-crash old words granted es f F some-F h over area c buffer carried image fits (not_true (is_complete c) fails)
+    forced-crash old words granted es f F some-F h over area c buffer carried image fits (not-true (is_complete c) fails)
 append_loss_bound_forced old words granted es f F some-F h over area (append kind bytes frequency buffer) fits fails =
     absurd (false≢true fails)
 append_loss_bound_forced old words granted es f F some-F h over area
