@@ -6,7 +6,7 @@ use drivelog::State;
 use layout::words_from;
 
 // What to do: the job's number, the bytes of a record, the live records, how often, and the words of the image.
-#[derive(Drop)]
+#[derive(Clone, Copy)]
 pub struct Job {
     pub number: u64,
     pub bytes: u64,
@@ -16,7 +16,7 @@ pub struct Job {
 }
 
 // The result of a job: the processor time, and a CRC-32 of what it left.
-#[derive(Drop)]
+#[derive(Clone, Copy)]
 pub struct Done {
     pub microseconds: u64,
     pub digest: u64,

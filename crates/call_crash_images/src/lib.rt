@@ -35,7 +35,7 @@ fn op_ok(n: u64, tag: u64, word: u64, argument: u64) -> bool
 }
 
 // A verdict on an op buffer, and how many of its ops there are up to the last store: the others are flushes.
-#[derive(Drop)]
+#[derive(Clone, Copy)]
 pub struct Tested {
     pub verdict: Verdict,
     pub stores: usize,
@@ -139,7 +139,7 @@ fn total_of(image: &[u64], ops: &[u64], stores: usize) -> u64
 }
 
 // A crash, and the size of the table at its point.
-#[derive(Drop)]
+#[derive(Clone, Copy)]
 pub struct Found {
     pub point: usize,
     pub choice: u64,

@@ -6,7 +6,7 @@
 use refusal::Refusal;
 
 // What a call about crash images answers: a number, or why it declines.
-#[derive(Drop)]
+#[derive(Clone, Copy)]
 pub enum CrashAnswer {
     Number(u64),
     Refused(Refusal),

@@ -16,7 +16,7 @@ ghost use Rattle.crash_table.specs.InnerTable.{IsTable, PutsEntry, PutsUnless, t
 pub const TABLE_ROOM: usize = 90;
 
 // A word's newest and flushed value.
-#[derive(Drop)]
+#[derive(Clone, Copy)]
 pub struct Held {
     pub newest: u64,
     pub flushed: u64,
@@ -67,7 +67,7 @@ pub fn held_at(image: &[u64], ops: &[u64], k: usize, w: usize) -> Held
 }
 
 // The size of a table: its entries, and how many images they make.
-#[derive(Drop)]
+#[derive(Clone, Copy)]
 pub struct Size {
     pub len: usize,
     pub images: u64,

@@ -33,7 +33,7 @@ fn act(
 
 // What is kept from command to command beside the state: the cursor, and how many words of the image and of the op
 // buffer are used.
-#[derive(Drop)]
+#[derive(Clone, Copy)]
 struct Kept {
     cursor: Cursor,
     image_used: u64,

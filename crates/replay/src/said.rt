@@ -4,7 +4,7 @@ use replay_script::input::Command;
 use replay_script::print::{AnswerWord, Said};
 
 // What a call answered, and the cursor to go on with.
-#[derive(Drop)]
+#[derive(Clone, Copy)]
 pub struct Told {
     pub said: Said,
     pub cursor: Cursor,

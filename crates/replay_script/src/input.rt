@@ -10,7 +10,7 @@ pub const MAX_OPS: usize = 26000;
 pub const MAX_BYTES: usize = 2048;
 
 // A command's number, 0 at the end of the script, and its arguments; those that it does not have are 0.
-#[derive(Drop)]
+#[derive(Clone, Copy)]
 pub struct Command {
     pub number: u64,
     pub first: u64,
@@ -22,7 +22,7 @@ pub struct Command {
 }
 
 // A word of the input, if it is there.
-#[derive(Drop)]
+#[derive(Clone, Copy)]
 struct Word {
     value: u64,
     is_there: bool,

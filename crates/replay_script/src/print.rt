@@ -9,7 +9,7 @@ use state::{TABLE_SIZE, stage_number};
 use words_state::{FIRST_ENTRY, STATE_WORDS, entry_from};
 
 // The word of an answer.
-#[derive(Drop)]
+#[derive(Clone, Copy)]
 pub enum AnswerWord {
     Ok,
     Kept,
@@ -21,7 +21,7 @@ pub enum AnswerWord {
 
 // What a call answered: its word, how many of the numbers stand after it, and after them the test that a damaged record
 // fails, 0 if there is none; and how many ops the call made.
-#[derive(Drop)]
+#[derive(Clone, Copy)]
 pub struct Said {
     pub word: AnswerWord,
     pub count: u64,
