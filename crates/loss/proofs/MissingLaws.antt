@@ -37,6 +37,7 @@ Falls b [] = Unit {0}
 Falls b (k ∷ ks) = (k < b) × Falls k ks
 
 pub falls_has : (b : ℕ) (ks : List ℕ) {k : ℕ} → Falls b ks → Has k ks → k < b
+falls_has b [] f m = elim m [ ]
 falls_has b (k ∷ ks) f first = f.0
 falls_has b (j ∷ ks) f (later h) = let a = falls_has j ks f.1 h in omega (arith, f.0)
 
@@ -73,6 +74,7 @@ module _ (s : System) where
 
 -- ---------------------------------------------------------------- listed or not
 lists_yes : (k : ℕ) (r : Found) (rs : List Found) → Among r rs → r.lsn ≡ k → lists k rs ≡ true
+lists_yes k r [] m e = elim m [ ]
 lists_yes k r (x ∷ rs) here e = rw (eq-eqb r.lsn k e)
 lists_yes k r (x ∷ rs) (there m) e = go (eqb x.lsn k) (lists_yes k r rs m e)
   where
