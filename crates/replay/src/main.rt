@@ -12,11 +12,14 @@ use replay_script::output::TEXT_SIZE;
 use replay_script::print::print;
 use replay_script::setup::{fill_words, set};
 use replay_script::{input, limited};
+use std::io;
+use std::io::Read;
 use words_state::STATE_WORDS;
 
 // Carries a command out on the used words, and answers the cursor after it. `bytes` are those of a copy, of an append or
 // of a fetch.
 fn act(
+    rt: &impl Print,
     c: Command,
     cursor: Cursor,
     state: &mut [u64; STATE_WORDS],
@@ -24,11 +27,11 @@ fn act(
     ops: &mut [u64],
     bytes: &mut [u8],
     out: &mut [u8; TEXT_SIZE],
-) -> Cursor {
+) -> io::Result<Cursor> {
     set(c, state, image);
     let told = make(c, cursor, state, image, ops, bytes);
-    print(out, c, told.said, state, image, ops, bytes);
-    told.cursor
+    print(rt, out, c, told.said, state, image, ops, bytes)?;
+    Ok(told.cursor)
 }
 
 // What is kept from command to command beside the state: the cursor, and how many words of the image and of the op
@@ -43,6 +46,7 @@ struct Kept {
 // Carries a command out on the used words, and on as many bytes as its third argument says, those of a copy, of an append
 // or of a fetch. All are within the limits.
 fn carry_out(
+    rt: &impl Print,
     c: Command,
     kept: Kept,
     state: &mut [u64; STATE_WORDS],
@@ -50,13 +54,14 @@ fn carry_out(
     ops: &mut [u64],
     bytes: &mut [u8],
     out: &mut [u8; TEXT_SIZE],
-) -> Kept {
+) -> io::Result<Kept> {
     let image_used = fill_words(image, kept.image_used, c.number == 1, c.first, c.second);
     let ops_used = fill_words(ops, kept.ops_used, c.number == 3, c.first, c.second);
     let n = limited(image_used, image.len());
     let t = limited(ops_used, ops.len());
     let m = limited(c.third, bytes.len());
     let cursor = act(
+        rt,
         c,
         kept.cursor,
         state,
@@ -64,18 +69,25 @@ fn carry_out(
         &mut ops[..t],
         &mut bytes[..m],
         out,
-    );
-    Kept {
+    )?;
+    Ok(Kept {
         cursor,
         image_used,
         ops_used,
-    }
+    })
 }
 
 // Carries out the commands of the script, from an image and an op buffer of no words and a state and a cursor all
 // zero. A proved loop has to end, and nothing says that the input does, so it counts its turns down from a number that
 // no run uses up.
-fn run(image: &mut [u64], ops: &mut [u64], bytes: &mut [u8], out: &mut [u8; TEXT_SIZE]) {
+fn run(
+    rt: &impl Print,
+    from: &mut impl Read,
+    image: &mut [u64],
+    ops: &mut [u64],
+    bytes: &mut [u8],
+    out: &mut [u8; TEXT_SIZE],
+) -> io::Result<()> {
     let mut state = [0u64; STATE_WORDS];
     let cursor = Cursor {
         pos: 0,
@@ -92,19 +104,27 @@ fn run(image: &mut [u64], ops: &mut [u64], bytes: &mut [u8], out: &mut [u8; TEXT
     };
     let mut turns: u64 = 18446744073709551615;
     while turns > 0 {
-        let c = input::read_command(bytes);
+        let c = input::read_command(rt, from, bytes)?;
         if c.number == 0 {
-            return;
+            return Ok(());
         }
-        kept = carry_out(c, kept, &mut state, image, ops, bytes, out);
+        kept = carry_out(rt, c, kept, &mut state, image, ops, bytes, out)?;
         turns -= 1;
     }
+    Ok(())
 }
 
-fn main() {
+fn main(rt: HostRuntime) -> io::Result<()> {
     let mut image = [0u64; MAX_IMAGE];
     let mut ops = [0u64; MAX_OPS];
     let mut bytes = [0u8; MAX_BYTES];
     let mut out = [0u8; TEXT_SIZE];
-    run(&mut image, &mut ops, &mut bytes, &mut out);
+    run(
+        &rt,
+        &mut rt.stdin(),
+        &mut image,
+        &mut ops,
+        &mut bytes,
+        &mut out,
+    )
 }

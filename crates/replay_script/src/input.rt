@@ -1,6 +1,8 @@
-// Commands of the script, off standard input: each with its arguments, within the limits, and the bytes of a copy or an
+// Commands of the script, off a reader: each with its arguments, within the limits, and the bytes of a copy or an
 // append with it.
-use libc::{STDIN_FILENO, STDOUT_FILENO};
+use read_input::read_full;
+use std::io;
+use std::io::Read;
 
 // The most words of the image and of the op buffer, and bytes of a copy, an append or a fetch.
 pub const MAX_IMAGE: usize = 9000;
@@ -29,33 +31,33 @@ struct Word {
 }
 
 // Reads a word if it is wanted.
-fn read_word(is_wanted: bool) -> Word {
+fn read_word(from: &mut impl Read, is_wanted: bool) -> io::Result<Word> {
     if !is_wanted {
-        return Word {
+        return Ok(Word {
             value: 0,
             is_there: true,
-        };
+        });
     }
     let mut bytes = [0u8; 8];
-    let got = io::read_full(STDIN_FILENO, &mut bytes);
-    Word {
+    let got = read_full(from, &mut bytes)?;
+    Ok(Word {
         value: layout::pack(bytes),
         is_there: got == 8,
-    }
+    })
 }
 
 // Reads `count` bytes rounded up to whole words, and says whether all were there. They do not fit only where the count
 // exceeds the limit, or in a buffer that is not of whole words itself.
-fn read_bytes(bytes: &mut [u8], count: u64) -> bool {
+fn read_bytes(from: &mut impl Read, bytes: &mut [u8], count: u64) -> io::Result<bool> {
     if (bytes.len() as u64) < count {
-        return false;
+        return Ok(false);
     }
     let size = (count as usize + 7) / 8 * 8;
     if bytes.len() < size {
-        return false;
+        return Ok(false);
     }
-    let got = io::read_full(STDIN_FILENO, &mut bytes[..size]);
-    got == size
+    let got = read_full(from, &mut bytes[..size])?;
+    Ok(got == size)
 }
 
 // How many arguments a command has; 7 where there is no such command.
@@ -78,65 +80,76 @@ fn is_too_large(number: u64, first: u64, third: u64) -> bool {
 }
 
 // Prints that a word is no command, or that a command exceeds a limit. Answers 0, the end of the script.
-fn bad(number: u64) -> u64 {
-    io::write_all(STDOUT_FILENO, b"bad ");
-    io::print_decimal(STDOUT_FILENO, number);
-    io::write_all(STDOUT_FILENO, b"\n");
-    0
+fn bad(rt: &impl Print, number: u64) -> io::Result<u64> {
+    println!(rt; "bad {number}")?;
+    Ok(0)
 }
 
 // Reads a command's number. The end of the input counts as the end of the script.
-fn read_number() -> u64 {
-    let word = read_word(true);
+fn read_number(rt: &impl Print, from: &mut impl Read) -> io::Result<u64> {
+    let word = read_word(from, true)?;
     if !word.is_there {
-        return 0;
+        return Ok(0);
     }
     if argument_count(word.value) == 7 {
-        return bad(word.value);
+        return bad(rt, word.value);
     }
-    word.value
+    Ok(word.value)
 }
 
 // The number of a command whose arguments are read, once the bytes of a copy or an append are too; 0 if the input cut it
 // off or it exceeds a limit.
-fn accepted(number: u64, is_whole: bool, first: u64, third: u64, bytes: &mut [u8]) -> u64 {
+fn accepted(
+    rt: &impl Print,
+    from: &mut impl Read,
+    number: u64,
+    is_whole: bool,
+    first: u64,
+    third: u64,
+    bytes: &mut [u8],
+) -> io::Result<u64> {
     if !is_whole {
-        return 0;
+        return Ok(0);
     }
     if is_too_large(number, first, third) {
-        return bad(number);
+        return bad(rt, number);
     }
     if (number == 12) | (number == 18) {
-        if !read_bytes(bytes, third) {
-            return 0;
+        if !read_bytes(from, bytes, third)? {
+            return Ok(0);
         }
     }
-    number
+    Ok(number)
 }
 
 // Reads the next command, and the bytes after a copy or an append.
-pub fn read_command(bytes: &mut [u8]) -> Command {
-    let number = read_number();
+pub fn read_command(
+    rt: &impl Print,
+    from: &mut impl Read,
+    bytes: &mut [u8],
+) -> io::Result<Command> {
+    let number = read_number(rt, from)?;
     let count = argument_count(number);
-    let first = read_word(0 < count);
-    let second = read_word(1 < count);
-    let third = read_word(2 < count);
-    let fourth = read_word(3 < count);
-    let fifth = read_word(4 < count);
-    let sixth = read_word(5 < count);
+    let first = read_word(from, 0 < count)?;
+    let second = read_word(from, 1 < count)?;
+    let third = read_word(from, 2 < count)?;
+    let fourth = read_word(from, 3 < count)?;
+    let fifth = read_word(from, 4 < count)?;
+    let sixth = read_word(from, 5 < count)?;
     let is_whole = first.is_there
         & second.is_there
         & third.is_there
         & fourth.is_there
         & fifth.is_there
         & sixth.is_there;
-    Command {
-        number: accepted(number, is_whole, first.value, third.value, bytes),
+    let number = accepted(rt, from, number, is_whole, first.value, third.value, bytes)?;
+    Ok(Command {
+        number,
         first: first.value,
         second: second.value,
         third: third.value,
         fourth: fourth.value,
         fifth: fifth.value,
         sixth: sixth.value,
-    }
+    })
 }

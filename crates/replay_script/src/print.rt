@@ -6,6 +6,7 @@ use crate::input::Command;
 use crate::output::{TEXT_SIZE, end_line, put_byte, put_number, put_numbers, put_text};
 use crate::{digest, limited};
 use state::{TABLE_SIZE, stage_number};
+use std::io;
 use words_state::{FIRST_ENTRY, STATE_WORDS, entry_from};
 
 // The word of an answer.
@@ -31,46 +32,46 @@ pub struct Said {
 }
 
 // Puts the name of a call, by the number of its command.
-fn put_call(out: &mut [u8; TEXT_SIZE], number: u64) {
+fn put_call(rt: &impl Print, out: &mut [u8; TEXT_SIZE], number: u64) -> io::Result<()> {
     match number {
-        10 => put_text(out, b"format"),
-        11 => put_text(out, b"reserve"),
-        12 => put_text(out, b"copy"),
-        13 => put_text(out, b"complete"),
-        14 => put_text(out, b"force"),
-        15 => put_text(out, b"release"),
-        16 => put_text(out, b"releaseall"),
-        17 => put_text(out, b"takeup"),
-        18 => put_text(out, b"append"),
-        20 => put_text(out, b"open"),
-        21 => put_text(out, b"next"),
-        _ => put_text(out, b"fetch"),
+        10 => put_text(rt, out, b"format"),
+        11 => put_text(rt, out, b"reserve"),
+        12 => put_text(rt, out, b"copy"),
+        13 => put_text(rt, out, b"complete"),
+        14 => put_text(rt, out, b"force"),
+        15 => put_text(rt, out, b"release"),
+        16 => put_text(rt, out, b"releaseall"),
+        17 => put_text(rt, out, b"takeup"),
+        18 => put_text(rt, out, b"append"),
+        20 => put_text(rt, out, b"open"),
+        21 => put_text(rt, out, b"next"),
+        _ => put_text(rt, out, b"fetch"),
     }
 }
 
 // Puts the word of an answer.
-fn put_word(out: &mut [u8; TEXT_SIZE], word: AnswerWord) {
+fn put_word(rt: &impl Print, out: &mut [u8; TEXT_SIZE], word: AnswerWord) -> io::Result<()> {
     match word {
-        AnswerWord::Ok => put_text(out, b" ok"),
-        AnswerWord::Kept => put_text(out, b" kept"),
-        AnswerWord::Deferred => put_text(out, b" putoff"),
-        AnswerWord::Record => put_text(out, b" record"),
-        AnswerWord::End => put_text(out, b" end"),
-        AnswerWord::Refused => put_text(out, b" refused"),
+        AnswerWord::Ok => put_text(rt, out, b" ok"),
+        AnswerWord::Kept => put_text(rt, out, b" kept"),
+        AnswerWord::Deferred => put_text(rt, out, b" putoff"),
+        AnswerWord::Record => put_text(rt, out, b" record"),
+        AnswerWord::End => put_text(rt, out, b" end"),
+        AnswerWord::Refused => put_text(rt, out, b" refused"),
     }
 }
 
 // Puts the test that a damaged record fails, by its number; nothing where there is none.
-fn put_damage(out: &mut [u8; TEXT_SIZE], damage: u64) {
+fn put_damage(rt: &impl Print, out: &mut [u8; TEXT_SIZE], damage: u64) -> io::Result<()> {
     match damage {
-        1 => put_text(out, b" mark"),
-        2 => put_text(out, b" kind"),
-        3 => put_text(out, b" length"),
-        4 => put_text(out, b" fit"),
-        5 => put_text(out, b" LSN"),
-        6 => put_text(out, b" check"),
-        7 => put_text(out, b" epoch"),
-        _ => {}
+        1 => put_text(rt, out, b" mark"),
+        2 => put_text(rt, out, b" kind"),
+        3 => put_text(rt, out, b" length"),
+        4 => put_text(rt, out, b" fit"),
+        5 => put_text(rt, out, b" LSN"),
+        6 => put_text(rt, out, b" check"),
+        7 => put_text(rt, out, b" epoch"),
+        _ => Ok(()),
     }
 }
 
@@ -105,76 +106,98 @@ fn state_digest(state: &[u64; STATE_WORDS]) -> u64 {
 
 // Puts the count of ops, and each op as it stands in the op buffer. The remainder is the count itself, and keeps the
 // product from wrapping.
-fn put_ops(out: &mut [u8; TEXT_SIZE], ops: &[u64], count: u64) {
-    put_text(out, b" orders");
-    put_number(out, b' ', count);
-    put_numbers(out, ops, 3 * (count % 65536), true);
+fn put_ops(rt: &impl Print, out: &mut [u8; TEXT_SIZE], ops: &[u64], count: u64) -> io::Result<()> {
+    put_text(rt, out, b" orders")?;
+    put_number(rt, out, b' ', count)?;
+    put_numbers(rt, out, ops, 3 * (count % 65536), true)
 }
 
 // Puts the numbers of a table entry unless it is free: its index, its three numbers, its stage's and its epoch.
-fn put_entry(out: &mut [u8; TEXT_SIZE], i: usize, numbers: [u64; 5]) {
+fn put_entry(
+    rt: &impl Print,
+    out: &mut [u8; TEXT_SIZE],
+    i: usize,
+    numbers: [u64; 5],
+) -> io::Result<()> {
     if numbers[3] == 0 {
-        return;
+        return Ok(());
     }
-    put_byte(out, b' ');
-    put_number(out, b'[', i as u64);
-    put_numbers(out, &numbers, 5, false);
-    put_byte(out, b']');
+    put_byte(rt, out, b' ')?;
+    put_number(rt, out, b'[', i as u64)?;
+    put_numbers(rt, out, &numbers, 5, false)?;
+    put_byte(rt, out, b']')
 }
 
 // Prints the state: its eight numbers, and the table entries that are not free.
-fn print_state(out: &mut [u8; TEXT_SIZE], state: &[u64; STATE_WORDS]) {
-    put_text(out, b"state");
-    put_numbers(out, state, FIRST_ENTRY as u64, false);
+fn print_state(
+    rt: &impl Print,
+    out: &mut [u8; TEXT_SIZE],
+    state: &[u64; STATE_WORDS],
+) -> io::Result<()> {
+    put_text(rt, out, b"state")?;
+    put_numbers(rt, out, state, FIRST_ENTRY as u64, false)?;
     let mut i: usize = 0;
     while i < TABLE_SIZE {
-        put_entry(out, i, entry_numbers(state, i));
+        put_entry(rt, out, i, entry_numbers(state, i))?;
         i += 1;
     }
-    end_line(out);
+    end_line(rt, out)
 }
 
 // Prints `count` words of the image from `first` on, as far as they exist.
-fn print_words(out: &mut [u8; TEXT_SIZE], image: &[u64], first: u64, count: u64) {
+fn print_words(
+    rt: &impl Print,
+    out: &mut [u8; TEXT_SIZE],
+    image: &[u64],
+    first: u64,
+    count: u64,
+) -> io::Result<()> {
     let start = limited(first, image.len());
-    put_text(out, b"words");
-    put_numbers(out, &image[start..], count, false);
-    end_line(out);
+    put_text(rt, out, b"words")?;
+    put_numbers(rt, out, &image[start..], count, false)?;
+    end_line(rt, out)
 }
 
 // Begins the line of a call: its name and answer, with the word of a damaged record's test.
-fn put_answer(out: &mut [u8; TEXT_SIZE], number: u64, said: Said) {
+fn put_answer(
+    rt: &impl Print,
+    out: &mut [u8; TEXT_SIZE],
+    number: u64,
+    said: Said,
+) -> io::Result<()> {
     let word = said.word;
     let numbers = said.numbers;
-    put_call(out, number);
-    put_word(out, word);
-    put_numbers(out, &numbers, said.count, false);
-    put_damage(out, said.damage);
+    put_call(rt, out, number)?;
+    put_word(rt, out, word)?;
+    put_numbers(rt, out, &numbers, said.count, false)?;
+    put_damage(rt, out, said.damage)
 }
 
 // Ends the line of a call: the digests of the image, the op buffer and the state, and where there are four also that of
 // the output.
 fn print_digests(
+    rt: &impl Print,
     out: &mut [u8; TEXT_SIZE],
     count: u64,
     state: &[u64; STATE_WORDS],
     image: &[u64],
     ops: &[u64],
     output: &[u8],
-) {
+) -> io::Result<()> {
     let digests = [
         digest::with_words(digest::START, image),
         digest::with_words(digest::START, ops),
         state_digest(state),
         digest::of_bytes(output),
     ];
-    put_text(out, b" =");
-    put_numbers(out, &digests, count, false);
-    end_line(out);
+    put_text(rt, out, b" =")?;
+    put_numbers(rt, out, &digests, count, false)?;
+    end_line(rt, out)
 }
 
 // Prints the line of a call, with its ops if it is one that writes.
 fn print_call(
+    rt: &impl Print,
     out: &mut [u8; TEXT_SIZE],
     number: u64,
     said: Said,
@@ -182,17 +205,18 @@ fn print_call(
     image: &[u64],
     ops: &[u64],
     output: &[u8],
-) {
-    put_answer(out, number, said);
+) -> io::Result<()> {
+    put_answer(rt, out, number, said)?;
     if number < 20 {
-        put_ops(out, ops, said.ops);
+        put_ops(rt, out, ops, said.ops)?;
     }
     let count = if number == 22 { 4 } else { 3 };
-    print_digests(out, count, state, image, ops, output);
+    print_digests(rt, out, count, state, image, ops, output)
 }
 
 // Prints the line of a command from 10 on.
 pub fn print(
+    rt: &impl Print,
     out: &mut [u8; TEXT_SIZE],
     c: Command,
     said: Said,
@@ -200,18 +224,16 @@ pub fn print(
     image: &[u64],
     ops: &[u64],
     output: &[u8],
-) {
+) -> io::Result<()> {
     let number = c.number;
     if number < 10 {
-        return;
+        return Ok(());
     }
     if number == 30 {
-        print_words(out, image, c.first, c.second);
-        return;
+        return print_words(rt, out, image, c.first, c.second);
     }
     if number == 31 {
-        print_state(out, state);
-        return;
+        return print_state(rt, out, state);
     }
-    print_call(out, number, said, state, image, ops, output);
+    print_call(rt, out, number, said, state, image, ops, output)
 }
