@@ -7,10 +7,10 @@ ROUNDS ?= 31
 reference = reference/target/release/reference
 archive = target/lib/libdrivelog.a
 tool = target/bin/drivelog
-# The crates whose functions are the calls for C: those that read an image's bytes, and those of the log with its state in lent words.
-c_crates = c_query c_read c_write c_append c_three c_vet c_crash
-# What the archive is made of: the files of these crates and of all that they stand on.
-c_sources := $(shell tools/sources $(c_crates))
+# The crate whose functions are the calls for C: those that read an image's bytes, and those of the log with its state in lent words.
+c_crate = drivelog_c
+# What the archive is made of: the files of this crate and of all that it stands on.
+c_sources := $(shell tools/sources $(c_crate))
 cli_c = $(wildcard cli/*.c driver/*.c)
 cli_h = $(wildcard cli/*.h driver/*.h include/*.h)
 # The version has one place, the header.
@@ -72,7 +72,7 @@ lib: $(archive)
 $(archive): $(c_sources) crates.txt tools/rt
 	@tools/need lib rt
 	@mkdir -p target
-	@tools/progress target/lib.log $(c_crates) -- tools/archive $(c_crates)
+	@tools/progress target/lib.log $(c_crate) -- tools/archive
 
 tool: $(tool)
 
