@@ -5,9 +5,11 @@
 
 ghost use Rattle.std.specs.Prelude.{◌≡◌, length};
 
-use libc::{STDIN_FILENO, STDOUT_FILENO};
 use list_image::{Listed, listing_room};
 use list_orphans::list_orphans;
+use read_input::read_full;
+use std::io;
+use std::io::{Read, Write};
 
 // Room for the largest image and one byte more: input that fills it is too long, and no more of it is read.
 fn input_room() -> [u8; 65537]
@@ -16,12 +18,18 @@ fn input_room() -> [u8; 65537]
     [0; 65537]
 }
 
-fn main() {
+// Reads an image's bytes and writes the LSNs of its orphans.
+fn list_input<R: Read, W: Write>(from: &mut R, to: &mut W) -> io::Result<()> {
     let mut input = input_room();
-    let n = io::read_full(STDIN_FILENO, &mut input);
+    let n = read_full(from, &mut input)?;
     let mut text = listing_room();
     let listed = list_orphans(&input[..n], &mut text);
-    if let Listed::Text(end) = listed {
-        io::write_all(STDOUT_FILENO, &text[..end]);
+    match listed {
+        Listed::Text(end) => to.write_all(&text[..end]),
+        Listed::NoRoom => Ok(()),
     }
+}
+
+fn main(rt: HostRuntime) -> io::Result<()> {
+    list_input(&mut rt.stdin(), &mut rt.stdout())
 }
