@@ -5,7 +5,9 @@
 
 ghost use Rattle.std.specs.Prelude.{◌≡◌, length};
 
-use libc::{STDIN_FILENO, STDOUT_FILENO};
+use read_input::read_full;
+use std::io;
+use std::io::{Read, Write};
 use why_listed::{LINE_ROOM, why_line};
 
 // Room for the largest image, a number and one byte more: input that fills it is too long, and no more of it is read.
@@ -15,10 +17,15 @@ fn input_room() -> [u8; 65545]
     [0; 65545]
 }
 
-fn main() {
+// Reads an image's bytes and an LSN, and writes the line that says why.
+fn answer_input<R: Read, W: Write>(from: &mut R, to: &mut W) -> io::Result<()> {
     let mut input = input_room();
-    let n = io::read_full(STDIN_FILENO, &mut input);
+    let n = read_full(from, &mut input)?;
     let mut line = [0u8; LINE_ROOM];
     let end = why_line(&input[..n], &mut line);
-    io::write_all(STDOUT_FILENO, &line[..end]);
+    to.write_all(&line[..end])
+}
+
+fn main(rt: HostRuntime) -> io::Result<()> {
+    answer_input(&mut rt.stdin(), &mut rt.stdout())
 }
