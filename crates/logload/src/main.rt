@@ -6,11 +6,13 @@
 ghost use Rattle.std.specs.Prelude.{◌≡◌, length};
 ghost use Rattle.crc_spec.specs.Bytes.{word_bytes};
 
-use libc::{STDIN_FILENO, STDOUT_FILENO};
 use list_lines::refused_line;
 use load_bytes::put_words;
 use load_image::{Answer, load_text};
+use read_input::read_full;
 use refusal::{Refusal, number_of};
+use std::io;
+use std::io::{Read, Write};
 
 // Room for the longest input and one byte more: input that fills it is too long, and no more of it is read.
 fn input_room() -> [u8; 262145]
@@ -43,25 +45,30 @@ fn image_bytes(image: &[u64; 8192]) -> [u8; 65536]
 }
 
 // Writes an image's bytes.
-fn write_image(image: &[u64; 8192]) {
+fn write_image<W: Write>(to: &mut W, image: &[u64; 8192]) -> io::Result<()> {
     let bytes = image_bytes(image);
-    io::write_all(STDOUT_FILENO, &bytes);
+    to.write_all(&bytes)
 }
 
 // Writes the line of a refusal.
-fn write_refusal(why: Refusal) {
+fn write_refusal<W: Write>(to: &mut W, why: Refusal) -> io::Result<()> {
     let mut line = [0u8; 29];
     let end = refused_line(&mut line, 0, number_of(why));
-    io::write_all(STDOUT_FILENO, &line[..end]);
+    to.write_all(&line[..end])
 }
 
-fn main() {
+// Reads a listing's text and writes the image's bytes, or a refusal.
+fn load_input<R: Read, W: Write>(from: &mut R, to: &mut W) -> io::Result<()> {
     let mut input = input_room();
-    let n = io::read_full(STDIN_FILENO, &mut input);
+    let n = read_full(from, &mut input)?;
     let mut image = image_room();
     let answer = load_text(&input[..n], &mut image);
     match answer {
-        Answer::Done => write_image(&image),
-        Answer::Refused(why) => write_refusal(why),
+        Answer::Done => write_image(to, &image),
+        Answer::Refused(why) => write_refusal(to, why),
     }
+}
+
+fn main(rt: HostRuntime) -> io::Result<()> {
+    load_input(&mut rt.stdin(), &mut rt.stdout())
 }
