@@ -4,8 +4,8 @@
 #![tactic(auto)]
 
 use drivelog::{Answer, State};
-use libc::STDOUT_FILENO;
 use list_image::{Listed, list_image, listing_room};
+use std::io;
 
 // The words of the module, the ops for which the op buffer has room, and its words.
 const WORDS: usize = 64;
@@ -96,19 +96,20 @@ fn first_run() -> [u64; WORDS] {
 }
 
 // The next run: recovers the log from what the module holds, and prints its records, as the program loglist does.
-fn next_run(mut module: [u64; WORDS]) {
+fn next_run(rt: &impl Print, mut module: [u64; WORDS]) -> io::Result<()> {
     let mut image = module;
     let mut ops = [0u64; OPS_WORDS];
     let recovered = drivelog::recover(&mut image, &mut ops);
     carry_out(&ops, recovered.ops, &mut module);
     let mut text = listing_room();
     let listed = list_image(&image, &mut text);
-    if let Listed::Text(end) = listed {
-        io::write_all(STDOUT_FILENO, &text[..end]);
+    match listed {
+        Listed::Text(end) => rt.write_all(&text[..end]),
+        Listed::NoRoom => Ok(()),
     }
 }
 
-fn main() {
+fn main(rt: HostRuntime) -> io::Result<()> {
     let module = first_run();
-    next_run(module);
+    next_run(&rt, module)
 }
