@@ -86,7 +86,7 @@ pub fn release_behind(s: State, image: &mut [u64], ops: &mut [u64], k: u64) -> S
     let mut t = s;
     let mut left = k;
     while 0 < left {
-        let released = release(t, image, ops, std::num::wrapping_add_u64(s.head_lsn, left));
+        let released = release(t, image, ops, s.head_lsn.wrapping_add(left));
         t = released.state;
         left -= 1;
     }

@@ -11,40 +11,40 @@ mod room;
 use jobs::Job;
 use layout::words_from;
 use list_image::listing_room;
+use read_input::read_full;
+use std::io;
+use std::io::Read;
 
 // Reads a job. Input that is too short makes job 0, which there is not.
-fn read_job() -> Job {
+fn read_job(from: &mut impl Read) -> io::Result<Job> {
     let mut bytes = [0u8; 40];
     let mut words = [0u64; 5];
-    let got = io::read_full(libc::STDIN_FILENO, &mut bytes);
+    let got = read_full(from, &mut bytes)?;
     words_from(&bytes, &mut words);
     let number = if got == 40 { words[0] } else { 0 };
-    Job {
+    Ok(Job {
         number,
         bytes: words[1],
         live: words[2],
         count: words[3],
         words: words[4],
-    }
+    })
 }
 
 // Prints the result of a job.
-fn print(microseconds: u64, digest: u64) {
-    io::print_decimal(libc::STDOUT_FILENO, microseconds);
-    io::write_all(libc::STDOUT_FILENO, b" ");
-    io::print_decimal(libc::STDOUT_FILENO, digest);
-    io::write_all(libc::STDOUT_FILENO, b"\n");
+fn print(rt: &impl Print, microseconds: u64, digest: u64) -> io::Result<()> {
+    println!(rt; "{microseconds} {digest}")
 }
 
-fn main() {
-    let job = read_job();
+fn main(rt: HostRuntime) -> io::Result<()> {
+    let job = read_job(&mut rt.stdin())?;
     if job.number == 0 {
-        return;
+        return Ok(());
     }
     let mut image = room::words();
     let mut ops = room::words();
     let payload = room::payload();
     let mut text = listing_room();
-    let done = jobs::run(job, &mut image, &mut ops, &payload, &mut text);
-    print(done.microseconds, done.digest);
+    let done = jobs::run(&rt, job, &mut image, &mut ops, &payload, &mut text)?;
+    print(&rt, done.microseconds, done.digest)
 }
