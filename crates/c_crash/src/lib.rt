@@ -32,8 +32,7 @@ fn report(answer: CrashAnswer, reply: &mut [u64]) -> i64
 }
 
 // How many crashes there are over an image and an op buffer.
-#[unsafe(no_mangle)]
-pub extern "C" fn drivelog_crash_count(image: &[u64], ops: &[u64], reply: &mut [u64]) -> i64
+pub fn drivelog_crash_count(image: &[u64], ops: &[u64], reply: &mut [u64]) -> i64
     ensures { CountCall result image ops reply }
 {
     if reply.len() < REPLY_WORDS {
@@ -44,8 +43,7 @@ pub extern "C" fn drivelog_crash_count(image: &[u64], ops: &[u64], reply: &mut [
 }
 
 // Puts the image that a crash leaves into the output, the crash by its number, and returns the crash point.
-#[unsafe(no_mangle)]
-pub extern "C" fn drivelog_crash_image(
+pub fn drivelog_crash_image(
     image: &[u64],
     ops: &[u64],
     number: u64,
