@@ -50,8 +50,8 @@ fn held_after(h: Held, tag: u64, word: u64, argument: u64, w: u64) -> Held
 // They after the first k ops of a buffer.
 pub fn held_at(image: &[u64], ops: &[u64], k: usize, w: usize) -> Held
     requires { (w < length image.now) × (k * 3 ≤ length ops.now) }
-    ensures { (result.newest ≡ newest_at (given image) (ops_of (given ops)) k w)
-        × (result.flushed ≡ flushed_at (given image) (ops_of (given ops)) k w) }
+    ensures { (result.newest ≡ newest_at image.now (ops_of ops.now) k w)
+        × (result.flushed ≡ flushed_at image.now (ops_of ops.now) k w) }
 {
     let mut h = Held {
         newest: image[w],
@@ -87,7 +87,7 @@ pub fn counted(count: usize, w: u64, word: u64) -> usize
 // How many of the first len entries of a table are of word w.
 pub fn entries_of(words: &[u64], len: usize, w: u64) -> usize
     requires { (len ≤ length words.now) × (len ≤ max_crashes) }
-    ensures { (result ≡ entries_of w (entries_in (given words) (given words) len)) × (result ≤ len) }
+    ensures { (result ≡ entries_of w (entries_in words.now words.now len)) × (result ≤ len) }
 {
     let mut count: usize = 0;
     let mut j = 0;
@@ -113,7 +113,7 @@ fn found_with(found: bool, w: u64, v: u64, word: u64, value: u64) -> bool
 // Whether value v of word w is among the first len entries.
 fn in_table(words: &[u64], values: &[u64], len: usize, w: u64, v: u64) -> bool
     requires { (len ≤ length words.now) × (len ≤ length values.now) }
-    ensures { result ≡ in_table w v (entries_in (given words) (given values) len) }
+    ensures { result ≡ in_table w v (entries_in words.now values.now len) }
 {
     let mut found = false;
     let mut j = 0;
@@ -224,7 +224,7 @@ pub fn table_after(
         × (table_room ≤ length words.old) × (table_room ≤ length values.old)
         × IsTable (table_at image.now (ops_of ops.now) k) words.old values.old size
         × (size.len < table_room) × (size.images ≤ max_crashes) }
-    ensures { IsTable (table_at (given image) (ops_of (given ops)) (k + 1)) (left words) (left values) result }
+    ensures { IsTable (table_at image.now (ops_of ops.now) (k + 1)) (left words) (left values) result }
 {
     let at = k * 3;
     let word = ops[at + 1];
