@@ -8,7 +8,6 @@ use Prim.Native.Nat.{ℕ, zero, suc, ◌+◌, ◌<◌}
 use native.Mathlib.Omega.{arith}
 use native.Mathlib.Decide.{dec_lt}
 use lib.Dec.{eqb}
-use lib.ListN.{length}
 use borrow.Author.Tests.{eqb-true, eqb-false}
 use Rattle.layout.specs.Record.{size_of}
 use Rattle.layout.specs.Ring.{area_of, ring_word}
@@ -19,7 +18,6 @@ use Rattle.scan.specs.Scan.{scan, scan_within}
 use Rattle.scan.specs.Listed.{Among, here, there}
 use Rattle.cells.specs.OneCell.{Holds, Holder, held, free, OneHolder}
 use Rattle.cells.proofs.PositionLaws.{none_before}
-use Rattle.cells.proofs.WordLaws.{t}
 
 -- one of n words from a position on is w, or none is
 record Met (c w p n : ℕ) : Type 0 where

@@ -60,6 +60,7 @@ module _ (image : List ℕ) where
 
   pub placed : (n : ℕ) (u : Cursor) (r : Found) → Among r (scan_from n image u).found → Placed u r
   unfolding scan_from_within
+  placed zero u r a = elim a [ ]
   placed (suc n) u r a = go (next image u) refl a (λ v. placed n v r)
     where
       go : (x : Reply Next) → next image u ≡ x → Among r (go_on (scan_from n image) u x).found
@@ -80,6 +81,8 @@ module _ (image : List ℕ) where
                 ∙ ap (λ (j : ℕ). ring_word c (u.pos + j)) (sym (add_assoc (size_of z.length) p.d i));
             room = omega arith;
           }
+      go (ok (ended _)) h k ih = elim k [ ]
+      go (refused _) h k ih = elim k [ ]
 
   -- where a scan ended
   pub record EndsAt (u : Cursor) (s : Scan) : Type 0 where
@@ -134,6 +137,8 @@ module _ (image : List ℕ) where
       → (scan_from n image u).found ≡ zs ++ (r ∷ rest) → Holds c w r
       → (z : Found) → Among z zs → Holds c w z → ⊥
   unfolding scan_from_within
+  none_before zero u [] rest r w e hold z a other = elim a [ ]
+  none_before (suc n) u [] rest r w e hold z a other = elim a [ ]
   none_before zero u (x ∷ zs) rest r w e hold z a other = let q : ◌≡◌ {A = ℕ} 0 1 = cc in omega arith
   none_before (suc n) u (x ∷ zs) rest r w e hold z a other =
       go (next image u) refl e a (λ v t m. none_before n v zs rest r w t hold z m other)
