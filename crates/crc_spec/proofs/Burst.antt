@@ -176,7 +176,8 @@ burst_agrees t a b p before after all-before all_after within same =
     let hr : r < 4294967296 = crc_over_lt 0xFFFFFFFF before (lit≤ tt) all-before in
     word_burst t r a b p within
     (over_injective (crc_over r (le_bytes t a)) (crc_over r (le_bytes t b)) after
-    (crc_over_lt r (le_bytes t a) hr (le_bytes_bytes t a)) (crc_over_lt r (le_bytes t b) hr (le_bytes_bytes t b)) all_after
+    (crc_over_lt r (le_bytes t a) hr (le_bytes_bytes t a)) (crc_over_lt r (le_bytes t b) hr (le_bytes_bytes t b))
+    all_after
     (sym (parts a) ∙ xor_cancel (over a) (over b) 0xFFFFFFFF same ∙ parts b))
   where
     over : ℕ → ℕ

@@ -16,7 +16,8 @@ pub bit_linear : (a b : ℕ) → crc_bit (bit_xor a b) ≡ bit_xor (crc_bit a) (
 unfolding crc_bit
 bit_linear a b =
     ap₂ (λ (x y : ℕ). bit_xor x (y * poly)) (xor_half a b) (xor_odd a b)
-    ∙ ap (bit_xor (bit_xor (a / 2) (b / 2))) (taps (a % 2) (b % 2) (mod-lt a (zero-lt-suc 1)) (mod-lt b (zero-lt-suc 1)))
+    ∙ ap (bit_xor (bit_xor (a / 2) (b / 2)))
+    (taps (a % 2) (b % 2) (mod-lt a (zero-lt-suc 1)) (mod-lt b (zero-lt-suc 1)))
     ∙ xor_cross (a / 2) (b / 2) (a % 2 * poly) (b % 2 * poly)
 
 pub linear : (n a b : ℕ) → crc_bits n (bit_xor a b) ≡ bit_xor (crc_bits n a) (crc_bits n b)

@@ -2,4 +2,3 @@
 // its laws: n bits are linear over the exclusive or, and so the registers of 256 bytes follow from those of their
 // digits. It has no code: crates crc_rows_low to crc_rows_13 have the rows, and crc32 goes by them.
 #![tactic(auto)]
-

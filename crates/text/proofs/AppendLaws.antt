@@ -83,7 +83,8 @@ length_hex (b ∷ bs) = let h = length_hex bs in omega arith
 -- one more byte of a byte string in hex
 pub hex_more : {at i : ℕ} {a b : List ℕ} (bs : List ℕ) (x y : ℕ) → Appended at (at + 2 * i) a b (hex_text (take i bs))
     → i < length bs
-    → at + 2 * length bs ≤ length a → x ≡ hex_digit_ascii (get_or bs i 0 / 16) → y ≡ hex_digit_ascii (get_or bs i 0 % 16)
+    → at + 2 * length bs ≤ length a → x ≡ hex_digit_ascii (get_or bs i 0 / 16)
+    → y ≡ hex_digit_ascii (get_or bs i 0 % 16)
     → Appended at (at + 2 * (i + 1)) a (set (set b (at + 2 * i) x) (at + 2 * i + 1) y) (hex_text (take (i + 1) bs))
 unfolding hex_text
 hex_more {at} {i} {a} {b} bs x y p l h ex ey =

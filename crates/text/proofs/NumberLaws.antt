@@ -35,7 +35,8 @@ digits_decimal (suc most) (suc (suc k)) n h f =
 pub length_digits : (k n : ℕ) → length (last_digits 10 k n) ≡ k
 length_digits zero n = refl
 length_digits (suc k) n =
-    rw (length-append (last_digits 10 k (n / 10)) (hex_digit_ascii (n % 10) ∷ []), length_digits k (n / 10)) (omega arith)
+    rw (length-append (last_digits 10 k (n / 10)) (hex_digit_ascii (n % 10) ∷ []), length_digits k (n / 10))
+    (omega arith)
 
 -- a number of 64 bits has at most 20 digits
 pub digits_most : (k n : ℕ) → n < 18446744073709551616 → IsDigitCount 10 1 n k → k ≤ 20
@@ -56,7 +57,8 @@ length_decimal zero n = omega arith
 length_decimal (suc most) n = go (length_decimal most (n / 10)) (ltb n 10)
   where
     go : length (decimal_within most (n / 10)) ≤ most → (b : Bool)
-        → length (cond b (hex_digit_ascii n ∷ []) (decimal_within most (n / 10) ++ (hex_digit_ascii (n % 10) ∷ []))) ≤ suc most
+        → length (cond b (hex_digit_ascii n ∷ []) (decimal_within most (n / 10) ++ (hex_digit_ascii (n % 10) ∷ [])))
+        ≤ suc most
     go h true = omega arith
     go h false = rw (length-append (decimal_within most (n / 10)) (hex_digit_ascii (n % 10) ∷ [])) (omega arith)
 
@@ -67,6 +69,7 @@ pub decimal_put : {at r n : ℕ} {out out' : List ℕ} (k : ℕ) (ds : List ℕ)
 decimal_put {at} {r} {n} k ds p e h f = rw (e, digits_decimal 20 k n (digits_most k n h f) f) at p
 
 -- there are at most 20 of them
-pub decimal_few : {n : ℕ} (k : ℕ) (ds : List ℕ) → take k ds ≡ last_digits 10 k n → n < 18446744073709551616 → IsDigitCount 10 1 n k
+pub decimal_few : {n : ℕ} (k : ℕ) (ds : List ℕ) → take k ds ≡ last_digits 10 k n → n < 18446744073709551616
+    → IsDigitCount 10 1 n k
     → length (take k ds) ≤ 20
 decimal_few {n} k ds e h f = rw (e, length_digits k n) (digits_most k n h f)

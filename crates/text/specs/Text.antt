@@ -6,7 +6,8 @@ use Rattle.io.specs.Digits.{hex_digit_ascii}
 -- the decimal digits of a number that has at most so many
 unfoldable pub decimal_within : ℕ → ℕ → List ℕ
 decimal_within zero n = []
-decimal_within (suc most) n = cond (ltb n 10) (hex_digit_ascii n ∷ []) (decimal_within most (n / 10) ++ (hex_digit_ascii (n % 10) ∷ []))
+decimal_within (suc most) n =
+    cond (ltb n 10) (hex_digit_ascii n ∷ []) (decimal_within most (n / 10) ++ (hex_digit_ascii (n % 10) ∷ []))
 
 -- the decimal digits of a number of 64 bits, which has at most 20
 abbrev pub decimal_text : ℕ → List ℕ
