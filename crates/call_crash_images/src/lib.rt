@@ -53,7 +53,7 @@ fn stores_with(stores: usize, tag: u64, k: usize) -> usize
 
 // The verdict of test 21: the lowest number of an op that is not one.
 fn bad_op(n: usize, ops: &[u64]) -> Tested
-    ensures { Tests (op_test (first_other (op_ok n) 0 (given ops)) ∷ []) (ops_of (given ops)) result }
+    ensures { Tests (op_test (first_other (op_ok n) 0 ops.now) ∷ []) (ops_of ops.now) result }
 {
     let mut k: usize = 0;
     let mut stores: usize = 0;
@@ -93,7 +93,7 @@ fn fewer(a: usize, b: usize) -> usize
 // The first op from k on, below end, that is a store; end if there is none. From op `stores` on there is none.
 fn next_store(ops: &[u64], stores: usize, k: usize, end: usize) -> usize
     requires { LastStore (ops_of ops.now) stores × (k ≤ end) × (end * 3 ≤ length ops.now) }
-    ensures { NextStore (ops_of (given ops)) k end result }
+    ensures { NextStore (ops_of ops.now) k end result }
 {
     let to = fewer(stores, end);
     let mut j = k;
@@ -109,7 +109,7 @@ fn next_store(ops: &[u64], stores: usize, k: usize, end: usize) -> usize
 // The first op from k on, below end, that can change a table of len entries: op k, or the next store if there are none.
 fn next_change(ops: &[u64], stores: usize, k: usize, end: usize, len: usize) -> usize
     requires { LastStore (ops_of ops.now) stores × (k ≤ end) × (end * 3 ≤ length ops.now) }
-    ensures { NextChange (ops_of (given ops)) k end len result }
+    ensures { NextChange (ops_of ops.now) k end len result }
 {
     if len == 0 {
         return next_store(ops, stores, k, end);
@@ -121,7 +121,7 @@ fn next_change(ops: &[u64], stores: usize, k: usize, end: usize, len: usize) -> 
 // flush of an empty table leaves one image, so that such flushes are only counted.
 fn total_of(image: &[u64], ops: &[u64], stores: usize) -> u64
     requires { GoodOps (length image.now) ops.now × LastStore (ops_of ops.now) stores }
-    ensures { Totals result (total (given image) (ops_of (given ops))) }
+    ensures { Totals result (total image.now (ops_of ops.now)) }
 {
     let mut words = [0u64; TABLE_ROOM];
     let mut values = [0u64; TABLE_ROOM];
@@ -158,7 +158,7 @@ fn find_crash(
     requires { GoodOps (length image.now) ops.now × LastStore (ops_of ops.now) stores
         × (i < total image.now (ops_of ops.now)) × (total image.now (ops_of ops.now) ≤ max_crashes)
         × (table_room ≤ length words.old) × (table_room ≤ length values.old) }
-    ensures { Finds (given image) (ops_of (given ops)) i result (left words) (left values) }
+    ensures { Finds image.now (ops_of ops.now) i result (left words) (left values) }
 {
     let mut size = Size { len: 0, images: 1 };
     let count = ops.len() / 3;
@@ -182,7 +182,7 @@ fn find_crash(
 // Copies an image into words of its length.
 fn copy_image(image: &[u64], output: &mut [u64])
     requires { length image.now ≡ length output.old }
-    ensures { left output ≡ given image }
+    ensures { left output ≡ image.now }
 {
     let mut w = 0;
     while w < image.len() {
@@ -195,7 +195,7 @@ fn copy_image(image: &[u64], output: &mut [u64])
 fn put_flushed_of(image: &[u64], ops: &[u64], k: usize, j: usize, output: &mut [u64])
     requires { GoodOps (length image.now) ops.now × (length image.now ≡ length output.old)
         × (k * 3 ≤ length ops.now) × (j * 3 + 3 ≤ length ops.now) }
-    ensures { FlushedOf (given image) (ops_of (given ops)) k j (given output) (left output) }
+    ensures { FlushedOf image.now (ops_of ops.now) k j (given output) (left output) }
 {
     let at = j * 3;
     if ops[at] == 1 {
@@ -209,7 +209,7 @@ fn put_flushed_of(image: &[u64], ops: &[u64], k: usize, j: usize, output: &mut [
 fn put_flushed(image: &[u64], ops: &[u64], stores: usize, k: usize, output: &mut [u64])
     requires { GoodOps (length image.now) ops.now × LastStore (ops_of ops.now) stores
         × (length image.now ≡ length output.old) × (k * 3 ≤ length ops.now) }
-    ensures { FlushedWords (given image) (ops_of (given ops)) k (left output) }
+    ensures { FlushedWords image.now (ops_of ops.now) k (left output) }
 {
     copy_image(image, output);
     let mut j = next_store(ops, stores, 0, k);
@@ -234,7 +234,7 @@ fn lower(best: u64, from: u64, word: u64) -> u64
 // The lowest word of a table's first len entries that is not below from, or n if there is none below that.
 fn next_word(words: &[u64], len: usize, from: u64, n: u64) -> u64
     requires { (len ≤ length words.now) × (from ≤ n) }
-    ensures { NextWord (entries_in (given words) (given words) len) from n result }
+    ensures { NextWord (entries_in words.now words.now len) from n result }
 {
     let mut best = n;
     let mut j = 0;
@@ -271,7 +271,7 @@ fn only_choice(d: u64, flushed: u64) -> u64
 // Choice d of word w: its flushed value, or that of an entry.
 fn choice_of(words: &[u64], values: &[u64], len: usize, w: u64, d: u64, flushed: u64) -> u64
     requires { (len ≤ length words.now) × (len ≤ length values.now) × (len ≤ max_crashes) }
-    ensures { result ≡ get_or (flushed ∷ values_of w (entries_in (given words) (given values) len)) d 0 }
+    ensures { result ≡ get_or (flushed ∷ values_of w (entries_in words.now values.now len)) d 0 }
 {
     let mut value = only_choice(d, flushed);
     let mut count: usize = 0;
@@ -287,7 +287,7 @@ fn choice_of(words: &[u64], values: &[u64], len: usize, w: u64, d: u64, flushed:
 // Puts word w's value by the lowest digit of m, and returns the number of the rest.
 fn put_choice(words: &[u64], values: &[u64], len: usize, w: u64, m: u64, output: &mut [u64]) -> u64
     requires { (len ≤ length words.now) × (len ≤ length values.now) × (len ≤ max_crashes) × (w < length output.old) }
-    ensures { PutsChoice (entries_in (given words) (given values) len) w m result (given output) (left output) }
+    ensures { PutsChoice (entries_in words.now values.now len) w m result (given output) (left output) }
 {
     let c = entries_of(words, len, w) as u64;
     let at = w as usize;
@@ -300,7 +300,7 @@ fn put_choice(words: &[u64], values: &[u64], len: usize, w: u64, m: u64, output:
 fn put_choices(words: &[u64], values: &[u64], len: usize, m: u64, output: &mut [u64])
     requires { (len ≤ length words.now) × (len ≤ length values.now) × (len ≤ max_crashes) }
     ensures { left output
-        ≡ words_by (λ w. get_or (given output) w 0) (entries_in (given words) (given values) len) 0 (room output) m }
+        ≡ words_by (λ w. get_or (given output) w 0) (entries_in words.now values.now len) 0 (room output) m }
 {
     let n = output.len() as u64;
     let mut rest = m;
@@ -316,8 +316,8 @@ fn put_crash(image: &[u64], ops: &[u64], stores: usize, i: u64, output: &mut [u6
     requires { GoodOps (length image.now) ops.now × LastStore (ops_of ops.now) stores
         × (length image.now ≡ length output.old)
         × (i < total image.now (ops_of ops.now)) × (total image.now (ops_of ops.now) ≤ max_crashes) }
-    ensures { (answered result ≡ ok (crash_number (given image) (ops_of (given ops)) i).point)
-        × (left output ≡ image_left (given image) (ops_of (given ops)) i) }
+    ensures { (answered result ≡ ok (crash_number image.now (ops_of ops.now) i).point)
+        × (left output ≡ image_left image.now (ops_of ops.now) i) }
 {
     let mut words = [0u64; TABLE_ROOM];
     let mut values = [0u64; TABLE_ROOM];
@@ -329,7 +329,7 @@ fn put_crash(image: &[u64], ops: &[u64], stores: usize, i: u64, output: &mut [u6
 
 // The verdict of tests 1 and 21, of an image of n words and room for one of so many.
 fn lent_verdict(n: usize, room: usize, ops: &[u64]) -> Tested
-    ensures { Tests (lent_tests n room (given ops)) (ops_of (given ops)) result }
+    ensures { Tests (lent_tests n room ops.now) (ops_of ops.now) result }
 {
     if !image_size_ok(n) {
         return Tested {
@@ -348,7 +348,7 @@ fn lent_verdict(n: usize, room: usize, ops: &[u64]) -> Tested
 
 // How many crashes there are over an image and an op buffer.
 pub fn crash_count(image: &[u64], ops: &[u64]) -> CrashAnswer
-    ensures { answered result ≡ count_reply (given image) (given ops) }
+    ensures { answered result ≡ count_reply image.now ops.now }
 {
     let tested = lent_verdict(image.len(), image.len(), ops);
     let verdict = tested.verdict;
@@ -364,9 +364,9 @@ pub fn crash_count(image: &[u64], ops: &[u64]) -> CrashAnswer
 
 // The image that crash number i leaves, put into the output. It answers the crash point; a refusal leaves the output.
 pub fn crash_image(image: &[u64], ops: &[u64], i: u64, output: &mut [u64]) -> CrashAnswer
-    ensures { (answered result ≡ point_reply (crash_reply (given image) (given ops) i (room output)))
+    ensures { (answered result ≡ point_reply (crash_reply image.now ops.now i (room output)))
         × (left output
-        ≡ output_left (given image) (ops_of (given ops)) (crash_reply (given image) (given ops) i (room output))
+        ≡ output_left image.now (ops_of ops.now) (crash_reply image.now ops.now i (room output))
         (given output)) }
 {
     let tested = lent_verdict(image.len(), output.len(), ops);

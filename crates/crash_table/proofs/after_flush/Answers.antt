@@ -1,9 +1,6 @@
-use mathlib.Core.Path.{◌≡◌, refl, ◌∙◌}
-use Prim.Native.Nat.{◌-◌, ◌≤◌}
+use mathlib.Core.Path.{refl, ◌∙◌}
 use native.Mathlib.Omega.{arith}
-use lib.ListN.{length}
-use borrow.Author.Rules.{rules}
-use Rattle.crash_table.proofs.TableTurns.{Kept, kept_first, kept_next}
+use Rattle.crash_table.proofs.TableTurns.{kept_first, kept_next}
 use Rattle.crash_table.proofs.after_flush.Goals as goal
 
 pub loop-j-init : goal.loop-j-init
@@ -13,12 +10,10 @@ loop-j-init c =
 
 pub loop-j-preserved : goal.loop-j-preserved
 loop-j-preserved c =
-    let p = c in
-    let l = p in
-    let a = l.args in (
-      kept_next a.first a.count a.words.now a.values.now l.loop-j.j l.loop-j.invariant.0 (omega arith)
-          (omega arith) p.put_kept-size.ensures,
-      p.put_kept-size.auto.words ∙ l.loop-j.invariant.1,
-      p.put_kept-size.auto.values ∙ l.loop-j.invariant.2,
+    let a = c.args in (
+      kept_next a.first a.count a.words.now a.values.now c.loop-j.j c.loop-j.invariant.0 (omega arith)
+          (omega arith) c.put_kept-size.ensures,
+      c.put_kept-size.auto.words ∙ c.loop-j.invariant.1,
+      c.put_kept-size.auto.values ∙ c.loop-j.invariant.2,
       omega arith,
     )

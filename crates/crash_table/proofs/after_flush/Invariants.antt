@@ -1,8 +1,7 @@
-use mathlib.Core.Path.{◌≡◌, refl, ◌∙◌}
+use mathlib.Core.Path.{◌≡◌}
 use Prim.Native.Nat.{◌-◌, ◌≤◌}
-use native.Mathlib.Omega.{arith}
 use lib.ListN.{length}
-use Rattle.crash_table.proofs.TableTurns.{Kept, kept_first, kept_next}
+use Rattle.crash_table.proofs.TableTurns.{Kept}
 use Rattle.crash_table.proofs.after_flush.Given as goal
 
 -- `crash_table::after_flush` meets its contract. The loop's invariant: what the flush leaves of the entries looked at

@@ -1,9 +1,7 @@
-use mathlib.Core.Path.{◌≡◌, refl}
-use Prim.Native.Nat.{◌-◌, ◌≤◌}
+use mathlib.Core.Path.{refl}
 use native.Mathlib.Omega.{arith}
 use lib.Dec.{eqb}
 use lib.ListN.{get_or}
-use borrow.Author.Rules.{rules}
 use Rattle.crash_images.specs.InnerSteps.{entries_in, entries_of}
 use Rattle.crash_images.proofs.TableLaws.{entries_turn, counted_below}
 use Rattle.crash_table.proofs.entries_of.Goals as goal

@@ -1,10 +1,6 @@
-use mathlib.Core.Path.{◌≡◌, refl}
+use mathlib.Core.Path.{◌≡◌}
 use Prim.Native.Nat.{◌-◌, ◌≤◌}
-use native.Mathlib.Omega.{arith}
-use lib.Dec.{eqb}
-use lib.ListN.{get_or}
 use Rattle.crash_images.specs.InnerSteps.{entries_in, entries_of}
-use Rattle.crash_images.proofs.TableLaws.{entries_turn, counted_below}
 use Rattle.crash_table.proofs.entries_of.Given as goal
 
 -- `crash_table::entries_of` meets its contract.

@@ -1,8 +1,5 @@
-use mathlib.Core.Path.{◌≡◌, refl}
-use Prim.Native.Nat.{◌-◌, ◌≤◌}
+use mathlib.Core.Path.{refl}
 use native.Mathlib.Omega.{arith}
-use borrow.Author.Rules.{rules}
-use Rattle.device.specs.ReadOps.{ops_of}
 use Rattle.crash_images.specs.InnerSteps.{newest_at, flushed_at}
 use Rattle.crash_images.proofs.BufferLaws.{held_turn}
 use Rattle.crash_table.proofs.held_at.Goals as goal

@@ -1,9 +1,7 @@
-use mathlib.Core.Path.{◌≡◌, refl}
+use mathlib.Core.Path.{◌≡◌}
 use Prim.Native.Nat.{◌-◌, ◌≤◌}
-use native.Mathlib.Omega.{arith}
 use Rattle.device.specs.ReadOps.{ops_of}
 use Rattle.crash_images.specs.InnerSteps.{newest_at, flushed_at}
-use Rattle.crash_images.proofs.BufferLaws.{held_turn}
 use Rattle.crash_table.proofs.held_at.Given as goal
 
 -- `crash_table::held_at` meets its contract.

@@ -1,7 +1,5 @@
-use mathlib.Core.Path.{◌≡◌, refl}
-use Prim.Native.Nat.{◌-◌, ◌≤◌}
+use mathlib.Core.Path.{refl}
 use native.Mathlib.Omega.{arith}
-use borrow.Author.Rules.{rules}
 use Rattle.crash_images.specs.InnerSteps.{entries_in, in_table}
 use Rattle.crash_images.proofs.TableLaws.{found_turn}
 use Rattle.crash_table.proofs.in_table.Goals as goal

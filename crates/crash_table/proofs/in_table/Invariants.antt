@@ -1,8 +1,6 @@
-use mathlib.Core.Path.{◌≡◌, refl}
+use mathlib.Core.Path.{◌≡◌}
 use Prim.Native.Nat.{◌-◌, ◌≤◌}
-use native.Mathlib.Omega.{arith}
 use Rattle.crash_images.specs.InnerSteps.{entries_in, in_table}
-use Rattle.crash_images.proofs.TableLaws.{found_turn}
 use Rattle.crash_table.proofs.in_table.Given as goal
 
 -- `crash_table::in_table` meets its contract.

@@ -1,8 +1,5 @@
 use mathlib.Core.Path.{refl, ◌∙◌}
-use native.Mathlib.Omega.{arith}
-use borrow.Author.Rules.{rules}
 use Rattle.crash_images.proofs.TableLaws.{entries_any}
-use Rattle.crash_table.proofs.TableTurns.{more_fits}
 use Rattle.crash_table.proofs.put_entry.Goals as goal
 
 pub returns : goal.returns

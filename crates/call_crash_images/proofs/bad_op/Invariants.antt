@@ -1,0 +1,16 @@
+use mathlib.Core.Path.{◌≡◌}
+use Prim.Native.Nat.{◌-◌, ◌*◌, ◌≤◌}
+use lib.ListN.{length, drop}
+use Rattle.crash_images.specs.CrashImages.{op_ok}
+use Rattle.device.specs.ReadOps.{ops_of, first_other}
+use Rattle.call_crash_images.proofs.OpLaws.{FlushesTo}
+use Rattle.call_crash_images.proofs.bad_op.Given as goal
+
+-- `call_crash_images::bad_op` meets its contract. The loop's invariant: the ops that are left have the first bad one
+-- that all have, and of those looked at all after so many are flushes. Cites OpLaws.antt.
+abbrev pub invariant-loop-k : goal.invariant-loop-k
+invariant-loop-k l = (first_other (op_ok l.n) l.k (drop (l.k * 3) l.ops) ≡ first_other (op_ok l.n) 0 l.ops) × (l.k * 3 ≤ length l.ops)
+    × FlushesTo (ops_of l.ops) l.stores l.k
+
+abbrev pub decreases-loop-k : goal.decreases-loop-k
+decreases-loop-k l = length l.ops - l.k
