@@ -1,7 +1,7 @@
 // Input read into a buffer that the caller lends, at any reader.
 #![tactic(auto)]
 
-ghost use Rattle.std.specs.Prelude.{IfOk, take, length, ◌<◌};
+ghost use Rattle.std.specs.Prelude.{◌≡◌, ◌<◌, IfOk, IfSome, take, length};
 ghost use Rattle.std.specs.Io.{ReadsAtMost};
 ghost use Rattle.std.specs.Io.KnownBytes.{Consumes, IsAtEnd};
 
@@ -14,6 +14,7 @@ pub fn read_full<R: Read>(from: &mut R, bytes: &mut [u8]) -> io::Result<usize>
     ensures within { ReadsAtMost result bytes.new }
     ensures taken { IfOk result (λ n. Consumes (R.remaining from.old) (R.remaining from.new) (take n bytes.new)) }
     ensures end { IfOk result (λ n. n < length bytes.new → IsAtEnd (R.remaining from.new)) }
+    ensures first { IfOk result (λ n. IfSome (R.remaining from.old) (λ xs. take n bytes.new ≡ take (length bytes.new) xs)) }
 {
     let mut done = 0;
     while done < bytes.len() {
