@@ -130,15 +130,23 @@ pub record Seen : Type 0 where
   pub prints : orphan_lsns marked (listed (scan marked).found) ≡ 2 ∷ []
 
 pub seen : Seen
-unfolding le_bytes word_bytes crc_bit crc_bits crc_byte crc_over crc32 size_of word0 mark_of kind_of length_of record_check word2
-    check_of epoch_of ring_word read_at ring_bytes payload_of copy_start copy_body copy_check copy_words selector active_word
-    number word_at words_at splice carry_op carry apply is_in may_hold is_left follow_ok free_from is_sound entry_in_table with_entry
-    size_from used names names_one names_in found_at damage_tests step_tests_within behind step_within next_within superline_bad
+unfolding le_bytes word_bytes crc_bit crc_bits crc_byte crc_over crc32 size_of word0 mark_of kind_of length_of
+    record_check word2
+    check_of epoch_of ring_word read_at ring_bytes payload_of copy_start copy_body copy_check copy_words selector
+    active_word
+    number word_at words_at splice carry_op carry apply is_in may_hold is_left follow_ok free_from is_sound
+    entry_in_table with_entry
+    size_from used names names_one names_in found_at damage_tests step_tests_within behind step_within next_within
+    superline_bad
     head_cursor is_one_of is_orphan orphans_after scan_from_within scan_within listed feed_granted feed reserve_state
-    complete_state effect_of after formatted mark_store mark_stores mark_flushes force_ops commit_from force_state first_open
-    has_multiple is_deferred format_ops fresh_state format_effect first_holder first_held pos_of free_entries head_at head_ops
-    mark_released release_ops release_state release_effect stores flush_ring superline_ops whole_record record_ops recorded_state
-    append_deferred append_due append_effect feed_recorded feed_appended feed_append after_append after_appends start inspected
+    complete_state effect_of after formatted mark_store mark_stores mark_flushes force_ops commit_from force_state
+    first_open
+    has_multiple is_deferred format_ops fresh_state format_effect first_holder first_held pos_of free_entries head_at
+    head_ops
+    mark_released release_ops release_state release_effect stores flush_ring superline_ops whole_record record_ops
+    recorded_state
+    append_deferred append_due append_effect feed_recorded feed_appended feed_append after_append after_appends start
+    inspected
     replaced refused_back half stayed given_back marked
 seen = record {
   first = refl;

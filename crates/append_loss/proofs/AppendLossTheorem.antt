@@ -104,7 +104,8 @@ module _ (old : List ℕ) (words : ℕ) (granted : (format_effect no_state old w
 
       all-loses : FitsAppend e t → LosesAtMost F (after_append e t) (since_append e t ks)
       all-loses fits =
-          rw (along_append since_went (appends_went es s) (append_went e t) [], since_appends_lem, since_event e t ks) at
+          rw (along_append since_went (appends_went es s) (append_went e t) [], since_appends_lem, since_event e t ks)
+          at
           (first_loses F some-F
           (goes_on g (goes_event t g.device there-inv g.below g.shows e fits))
           (in_turn_append F (appends_went es s) (append_went e t) free (appends_in_turn F es s free h)
@@ -158,7 +159,8 @@ unfolding AppendLossBoundForced after_append
 append_loss_bound_forced old words granted es f F some-F h over area (event (call g c buffer)) fits fails =
     absurd (false≢true fails)
 append_loss_bound_forced old words granted es f F some-F h over area (event (crash c buffer carried image)) fits fails =
-    forced-crash old words granted es f F some-F h over area c buffer carried image fits (not-true (is_complete c) fails)
+    forced-crash old words granted es f F some-F h over area c buffer carried image fits
+    (not-true (is_complete c) fails)
 append_loss_bound_forced old words granted es f F some-F h over area (append kind bytes frequency buffer) fits fails =
     absurd (false≢true fails)
 append_loss_bound_forced old words granted es f F some-F h over area

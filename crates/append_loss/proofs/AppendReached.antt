@@ -102,13 +102,19 @@ in_turn : {A : Type 0} → A → (◌≡◌ {A = Turn} free free) × A
 in_turn rest = (refl, rest)
 
 lost : Lost 1 × Lost 2 × Lost 8
-unfolding in_turn loss appends failing blank le_bytes word_bytes crc_bit crc_bits crc_byte crc_over crc32 size_of word0 mark_of
-    kind_of length_of record_check word2 check_of epoch_of ring_word read_at ring_bytes payload_of copy_start copy_body copy_check
-    copy_words selector active_word number word_at words_at carry_op carry apply follow_ok free_from is_sound entry_in_table with_entry
+unfolding in_turn loss appends failing blank le_bytes word_bytes crc_bit crc_bits crc_byte crc_over crc32 size_of word0
+    mark_of
+    kind_of length_of record_check word2 check_of epoch_of ring_word read_at ring_bytes payload_of copy_start copy_body
+    copy_check
+    copy_words selector active_word number word_at words_at carry_op carry apply follow_ok free_from is_sound
+    entry_in_table with_entry
     size_from used found_at damage_tests step_tests_within behind step_within next_within superline_bad head_cursor
-    scan_from_within scan_within listed feed_granted reserve_state complete_state formatted mark_store mark_stores mark_flushes
-    force_ops commit_from force_state first_open has_multiple is_deferred format_ops fresh_state format_effect stores flush_ring
-    superline_ops whole_record record_ops recorded_state append_deferred append_due append_effect feed_recorded feed_appended
+    scan_from_within scan_within listed feed_granted reserve_state complete_state formatted mark_store mark_stores
+    mark_flushes
+    force_ops commit_from force_state first_open has_multiple is_deferred format_ops fresh_state format_effect stores
+    flush_ring
+    superline_ops whole_record record_ops recorded_state append_deferred append_due append_effect feed_recorded
+    feed_appended
     feed_append after_append after_appends since_append since_appends missing DisciplinedAppendsFrom turn_append
 lost = (
   record { stored = omega arith; disciplined = in_turn tt; lost = refl },

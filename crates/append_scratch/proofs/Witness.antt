@@ -88,13 +88,20 @@ pub record Seen : Type 0 where
   pub left_more : is_left (carry (take 1 (ops_of more)) noted.device) (length noted.image) again ≡ true
 
 pub seen : Seen
-unfolding le_bytes word_bytes crc_bit crc_bits crc_byte crc_over crc32 size_of word0 mark_of kind_of length_of record_check word2
-    check_of epoch_of ring_word read_at ring_bytes payload_of copy_start copy_body copy_check copy_words selector active_word
-    number word_at words_at carry_op carry apply ops_of first_other is_in may_hold is_left follow_ok free_from is_sound entry_in_table
-    with_entry size_from used found_at damage_tests step_tests_within behind step_within next_within superline_bad head_cursor
-    scan_from_within scan_within listed feed_granted reserve_state complete_state formatted mark_store mark_stores mark_flushes
-    force_ops commit_from force_state first_open has_multiple is_deferred format_ops fresh_state format_effect stores flush_ring
-    superline_ops whole_record record_ops recorded_state append_deferred append_due append_effect feed_recorded feed_appended
+unfolding le_bytes word_bytes crc_bit crc_bits crc_byte crc_over crc32 size_of word0 mark_of kind_of length_of
+    record_check word2
+    check_of epoch_of ring_word read_at ring_bytes payload_of copy_start copy_body copy_check copy_words selector
+    active_word
+    number word_at words_at carry_op carry apply ops_of first_other is_in may_hold is_left follow_ok free_from is_sound
+    entry_in_table
+    with_entry size_from used found_at damage_tests step_tests_within behind step_within next_within superline_bad
+    head_cursor
+    scan_from_within scan_within listed feed_granted reserve_state complete_state formatted mark_store mark_stores
+    mark_flushes
+    force_ops commit_from force_state first_open has_multiple is_deferred format_ops fresh_state format_effect stores
+    flush_ring
+    superline_ops whole_record record_ops recorded_state append_deferred append_due append_effect feed_recorded
+    feed_appended
     feed_append after_append after_scratch is_among belongs_from is_free_word vet start written noted half again
 seen = record {
   passed = refl;

@@ -50,7 +50,8 @@ whole_on os m = cond m.is_in_step (carried_out os m) m
 abbrev wholly : List Op → Fate
 wholly os = record { carried = length os; left = [] }
 
-whole_moved : (os : List Op) (m : Module) → module_after (part_in_call os false (wholly os) m) (wholly os) m ≡ whole_on os m
+whole_moved : (os : List Op) (m : Module)
+    → module_after (part_in_call os false (wholly os) m) (wholly os) m ≡ whole_on os m
 unfolding module_after
 whole_moved os m = rw (eq-eqb (length os) (length os) refl)
 

@@ -84,14 +84,22 @@ ended = append_drive_after e2 forced
 pub all_can : (i : Slot)
     → (can_befall (append_part start 17 (1 ∷ 2 ∷ []) 1 99 first_fates false i) (first_fates i) (start.modules i) ≡ true)
     × (can_befall (append_part forced 18 (3 ∷ []) 3 99 next_fates true i) (next_fates i) (forced.modules i) ≡ true)
-unfolding le_bytes word_bytes crc_bit crc_bits crc_byte crc_over crc32 size_of word0 mark_of kind_of length_of record_check word2
-    check_of epoch_of ring_word read_at ring_bytes payload_of copy_start copy_body copy_check copy_words selector active_word
-    number word_at words_at splice carry_op carry apply follow_ok free_from is_sound entry_in_table with_entry size_from used found_at
-    damage_tests step_tests_within behind step_within next_within superline_bad head_cursor opening scan_from_within scan_within
-    listed feed_granted feed reserve_state complete_state mark_store mark_stores mark_flushes force_ops commit_from force_state
-    first_open has_multiple is_deferred format_ops fresh_state format_effect recover_ops_of recover_ops stores flush_ring
-    superline_ops whole_record record_ops recorded_state append_deferred append_due append_effect feed_recorded reads_to_end beats
-    chosen_slot repair_ops repair_of ops_for three_effect module_after feed_three formatted_drive is_in may_hold is_left can_befall
+unfolding le_bytes word_bytes crc_bit crc_bits crc_byte crc_over crc32 size_of word0 mark_of kind_of length_of
+    record_check word2
+    check_of epoch_of ring_word read_at ring_bytes payload_of copy_start copy_body copy_check copy_words selector
+    active_word
+    number word_at words_at splice carry_op carry apply follow_ok free_from is_sound entry_in_table with_entry size_from
+    used found_at
+    damage_tests step_tests_within behind step_within next_within superline_bad head_cursor opening scan_from_within
+    scan_within
+    listed feed_granted feed reserve_state complete_state mark_store mark_stores mark_flushes force_ops commit_from
+    force_state
+    first_open has_multiple is_deferred format_ops fresh_state format_effect recover_ops_of recover_ops stores
+    flush_ring
+    superline_ops whole_record record_ops recorded_state append_deferred append_due append_effect feed_recorded
+    reads_to_end beats
+    chosen_slot repair_ops repair_of ops_for three_effect module_after feed_three formatted_drive is_in may_hold is_left
+    can_befall
     feed_appended_three feed_append_three append_drive_after start first_ops forced next_ops ended
 all_can slot0 = (refl, refl)
 all_can slot1 = (refl, refl)
@@ -140,14 +148,22 @@ pub record Seen : Type 0 where
   pub choice : (three_effect no_state (replicas_of ended present (λ i. 200))).choice ≡ slot1
 
 pub seen : Seen
-unfolding le_bytes word_bytes crc_bit crc_bits crc_byte crc_over crc32 size_of word0 mark_of kind_of length_of record_check word2
-    check_of epoch_of ring_word read_at ring_bytes payload_of copy_start copy_body copy_check copy_words selector active_word
-    number word_at words_at splice carry_op carry apply follow_ok free_from is_sound entry_in_table with_entry size_from used found_at
-    damage_tests step_tests_within behind step_within next_within superline_bad head_cursor opening scan_from_within scan_within
-    listed feed_granted feed reserve_state complete_state mark_store mark_stores mark_flushes force_ops commit_from force_state
-    first_open has_multiple is_deferred format_ops fresh_state format_effect recover_ops_of recover_ops stores flush_ring
-    superline_ops whole_record record_ops recorded_state append_deferred append_due append_effect feed_recorded reads_to_end beats
-    chosen_slot repair_ops repair_of ops_for three_effect module_after feed_three formatted_drive is_in may_hold is_left can_befall
+unfolding le_bytes word_bytes crc_bit crc_bits crc_byte crc_over crc32 size_of word0 mark_of kind_of length_of
+    record_check word2
+    check_of epoch_of ring_word read_at ring_bytes payload_of copy_start copy_body copy_check copy_words selector
+    active_word
+    number word_at words_at splice carry_op carry apply follow_ok free_from is_sound entry_in_table with_entry size_from
+    used found_at
+    damage_tests step_tests_within behind step_within next_within superline_bad head_cursor opening scan_from_within
+    scan_within
+    listed feed_granted feed reserve_state complete_state mark_store mark_stores mark_flushes force_ops commit_from
+    force_state
+    first_open has_multiple is_deferred format_ops fresh_state format_effect recover_ops_of recover_ops stores
+    flush_ring
+    superline_ops whole_record record_ops recorded_state append_deferred append_due append_effect feed_recorded
+    reads_to_end beats
+    chosen_slot repair_ops repair_of ops_for three_effect module_after feed_three formatted_drive is_in may_hold is_left
+    can_befall
     feed_appended_three feed_append_three append_drive_after start first_ops forced next_ops ended
 seen = record {
   durable = refl;

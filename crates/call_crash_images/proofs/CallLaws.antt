@@ -77,7 +77,8 @@ module _ (image buffer : List ℕ) where
   unfolding count_reply
   count_refused {w} h =
       sym (refusal_decides (size_test image ∷ op_test (first_other (op_ok (length image)) 0 buffer) ∷ []) tt refused
-      (decide (test (ltb max_crashes (total image (ops_of buffer))) 22 0 ∷ []) refused (ok (total image (ops_of buffer))))
+      (decide (test (ltb max_crashes (total image (ops_of buffer))) 22 0 ∷ []) refused
+      (ok (total image (ops_of buffer))))
       (h ∙ rw (eq-eqb (length image) (length image) refl, or_none (not (image_size_ok (length image))))))
 
   module _ (f : Fine (length image) (length image) buffer) where
@@ -100,7 +101,8 @@ module _ (image buffer : List ℕ) (i room : ℕ) where
       refused (ok (crash_number image (ops_of buffer) i))) h
 
   module _ (f : Fine (length image) room buffer) where
-    pub crash-over : max_crashes < total image (ops_of buffer) → crash_reply image buffer i room ≡ refused (because 22 0)
+    pub crash-over : max_crashes < total image (ops_of buffer)
+        → crash_reply image buffer i room ≡ refused (because 22 0)
     unfolding crash_reply
     crash-over h =
         rw (f.size, eq-eqb room (length image) f.same, f.ops, lt-ltb max_crashes (total image (ops_of buffer)) h)

@@ -43,14 +43,16 @@ unstored image os (suc k) w h = go (unstored image os k w) (op_at os k) h
     same false p q = q
 
     stored :
-        (stored_by os k w ≡ false → (newest_at image os k w ≡ get_or image w 0) × (flushed_at image os k w ≡ get_or image w 0))
+        (stored_by os k w ≡ false
+        → (newest_at image os k w ≡ get_or image w 0) × (flushed_at image os k w ≡ get_or image w 0))
         → (b : Bool) (v : ℕ) → (b || stored_by os k w) ≡ false
         → (cond b v (newest_at image os k w) ≡ get_or image w 0) × (flushed_at image os k w ≡ get_or image w 0)
     stored r true v q = absurd (true-false q)
     stored r false v q = r q
 
     go :
-        (stored_by os k w ≡ false → (newest_at image os k w ≡ get_or image w 0) × (flushed_at image os k w ≡ get_or image w 0))
+        (stored_by os k w ≡ false
+        → (newest_at image os k w ≡ get_or image w 0) × (flushed_at image os k w ≡ get_or image w 0))
         → (o : Op) → (stores_to o w || stored_by os k w) ≡ false
         → (newest_step o w (newest_at image os k w) ≡ get_or image w 0)
         × (flushed_step o w (newest_at image os k w) (flushed_at image os k w) ≡ get_or image w 0)
@@ -118,7 +120,8 @@ flushed_all image os k output f = record { each = λ w. f w ∙ go w (stored_by 
 
 -- op j is a store, or a flush
 module _ (image buffer : List ℕ) (k j : ℕ) (h : j * 3 + 3 ≤ length buffer) where
-  pub flushed_store : (output : List ℕ) (v : ℕ) → get_or buffer (j * 3) 0 ≡ 1 → get_or buffer (j * 3 + 1) 0 < length output
+  pub flushed_store : (output : List ℕ) (v : ℕ) → get_or buffer (j * 3) 0 ≡ 1
+      → get_or buffer (j * 3 + 1) 0 < length output
       → v ≡ flushed_at image (ops_of buffer) k (get_or buffer (j * 3 + 1) 0)
       → FlushedOf image (ops_of buffer) k j output (set output (get_or buffer (j * 3 + 1) 0) v)
   flushed_store output v tag l e = record {
@@ -133,7 +136,8 @@ module _ (image buffer : List ℕ) (k j : ℕ) (h : j * 3 + 3 ≤ length buffer)
           let z = eqb-true w (get_or buffer (j * 3 + 1) 0) p in
           rw z (get_or-set_same output (get_or buffer (j * 3 + 1) 0) v 0 l ∙ e)
       go w false p =
-          get_or-set_other output (get_or buffer (j * 3 + 1) 0) w v 0 (λ z. eqb-false w (get_or buffer (j * 3 + 1) 0) p z)
+          get_or-set_other output (get_or buffer (j * 3 + 1) 0) w v 0
+          (λ z. eqb-false w (get_or buffer (j * 3 + 1) 0) p z)
 
   pub flushed_flush : (output : List ℕ) → (get_or buffer (j * 3) 0 ≡ 1 → ⊥)
       → FlushedOf image (ops_of buffer) k j output output

@@ -173,7 +173,8 @@ module _ (image buffer : List ℕ) (good : GoodOps (length image) buffer) (k : �
   group_inside h = omega (arith, good.whole)
 
   -- the sum up to a point is at most the total
-  pub before_total : k ≤ length (ops_of buffer) → crashes_before image (ops_of buffer) (suc k) ≤ total image (ops_of buffer)
+  pub before_total : k ≤ length (ops_of buffer)
+      → crashes_before image (ops_of buffer) (suc k) ≤ total image (ops_of buffer)
   before_total h = let n = length (ops_of buffer) in
       let e : n - k + suc k ≡ suc n = omega arith in
       omega (

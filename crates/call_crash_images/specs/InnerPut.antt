@@ -68,7 +68,8 @@ stored_by os (suc j) w = stores_to (op_at os j) w || stored_by os j w
 
 -- the word that op j stores to has its value flushed after k ops; the others stay
 pub record FlushedOf (image : List ℕ) (os : List Op) (k j : ℕ) (output output' : List ℕ) : Type 0 where
-  pub each : (w : ℕ) → get_or output' w 0 ≡ cond (stores_to (op_at os j) w) (flushed_at image os k w) (get_or output w 0)
+  pub each : (w : ℕ)
+      → get_or output' w 0 ≡ cond (stores_to (op_at os j) w) (flushed_at image os k w) (get_or output w 0)
 
 -- every word has its value flushed after k ops
 pub record FlushedWords (image : List ℕ) (os : List Op) (k : ℕ) (output : List ℕ) : Type 0 where

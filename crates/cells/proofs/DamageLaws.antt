@@ -70,7 +70,8 @@ module _ (limit c : ℕ) (u : Cursor) where
         go : AllPass (rows w0 w1 w2 x) → Refuses v a b y granted 2
         go (and h₁₃ q) = rw (h₁₃, le-ltb 2 (mark_of v) m, eq-eqb (kind_of v) 0 z)
 
-    length-fails : (granted : Reply Next) (v a b y : ℕ) → mark_of v ≤ 2 → (kind_of v ≡ 0 → ⊥) → max_payload < length_of v
+    length-fails : (granted : Reply Next) (v a b y : ℕ) → mark_of v ≤ 2 → (kind_of v ≡ 0 → ⊥)
+        → max_payload < length_of v
         → Refuses v a b y granted 3
     length-fails granted v a b y m z l = go p
       where
@@ -129,10 +130,12 @@ module _ (limit : ℕ) (old new : List ℕ) (sized : length new ≡ length old) 
   unfolding next_within step_within step_tests_within damage_tests found_at
   granted r v h =
       let p =
-      answered (size_test old ∷ test (not (cursor_ok_within limit c u)) 2 0 ∷ []) (step_within limit old c u) (one r v) h in
+      answered (size_test old ∷ test (not (cursor_ok_within limit c u)) 2 0 ∷ []) (step_within limit old c u) (one r v)
+      h in
       go (eqb (mark_of w0) 0) refl p.0 p.1
     where
-      go : (m : Bool) → eqb (mark_of w0) 0 ≡ m → AllPass (size_test old ∷ test (not (cursor_ok_within limit c u)) 2 0 ∷ [])
+      go : (m : Bool) → eqb (mark_of w0) 0 ≡ m
+          → AllPass (size_test old ∷ test (not (cursor_ok_within limit c u)) 2 0 ∷ [])
           → cond m (ok (ended u.lsn))
           (decide (step_tests_within limit old c u) refused (ok (one here (behind c u here))))
           ≡ ok (one r v) → Granted r

@@ -51,15 +51,18 @@ abbrev damaged : ℕ → Reply ℕ
 damaged test = refused (damaged_by test 2)
 
 pub small_ended : Ended small
-unfolding opening superline_bad copy_check word_bytes head_cursor selector active_word copy_start le_bytes crc32 crc_over
+unfolding opening superline_bad copy_check word_bytes head_cursor selector active_word copy_start le_bytes crc32
+    crc_over
     crc_byte crc_bits crc_bit scan_within
-    scan_from_within next_within step_within step_tests_within damage_tests found_at word0 word2 mark_of kind_of length_of check_of
+    scan_from_within next_within step_within step_tests_within damage_tests found_at word0 word2 mark_of kind_of
+    length_of check_of
     epoch_of size_of record_check read_at ring_word payload_of ring_bytes behind listed
 small_ended = record { opens = refl; lsn = 3; ends = refl }
 
 pub small_reads : Reads small (only ∷ []) (ok 3)
 unfolding head_cursor selector active_word copy_start le_bytes crc32 crc_over crc_byte crc_bits crc_bit scan_within
-    scan_from_within next_within step_within step_tests_within damage_tests found_at word0 word2 mark_of kind_of length_of check_of
+    scan_from_within next_within step_within step_tests_within damage_tests found_at word0 word2 mark_of kind_of
+    length_of check_of
     epoch_of size_of record_check read_at ring_word payload_of ring_bytes behind listed
 small_reads = record { finds = refl; ends = refl }
 
@@ -74,7 +77,8 @@ the_33_bits = refl
 pub payload_lost : (Reads unseen_change (only ∷ []) (ok 3)) × (get_or (payload small only) 0 0 ≡ 0x30)
     × (get_or (payload unseen_change only) 0 0 ≡ 0x71)
 unfolding head_cursor selector active_word copy_start le_bytes crc32 crc_over crc_byte crc_bits crc_bit scan_within
-    scan_from_within next_within step_within step_tests_within damage_tests found_at word0 word2 mark_of kind_of length_of check_of
+    scan_from_within next_within step_within step_tests_within damage_tests found_at word0 word2 mark_of kind_of
+    length_of check_of
     epoch_of size_of record_check read_at ring_word payload_of ring_bytes behind listed
 payload_lost = (record { finds = refl; ends = refl }, refl, refl)
 
@@ -90,27 +94,31 @@ neither (damage n d) = let e = d.ends in let k = payload_lost.0.ends in let z : 
 pub shorter : (Reads (set small 24 (word0 4 7 1)) (with_length 4 ∷ []) (ok 3))
     × (length (payload (set small 24 (word0 4 7 1)) (with_length 4)) ≡ 4)
 unfolding head_cursor selector active_word copy_start le_bytes crc32 crc_over crc_byte crc_bits crc_bit scan_within
-    scan_from_within next_within step_within step_tests_within damage_tests found_at word0 word2 mark_of kind_of length_of check_of
+    scan_from_within next_within step_within step_tests_within damage_tests found_at word0 word2 mark_of kind_of
+    length_of check_of
     epoch_of size_of record_check read_at ring_word payload_of ring_bytes behind listed
 shorter = (record { finds = refl; ends = refl }, refl)
 
 -- word 0: mark 0 is the end, and mark 2 leaves the record out of the list
 pub ended_early : Reads (set small 24 (word0 8 7 0)) [] (ok 2)
 unfolding head_cursor selector active_word copy_start le_bytes crc32 crc_over crc_byte crc_bits crc_bit scan_within
-    scan_from_within next_within step_within step_tests_within damage_tests found_at word0 word2 mark_of kind_of length_of check_of
+    scan_from_within next_within step_within step_tests_within damage_tests found_at word0 word2 mark_of kind_of
+    length_of check_of
     epoch_of size_of record_check read_at ring_word payload_of ring_bytes behind listed
 ended_early = record { finds = refl; ends = refl }
 
 pub not_listed : (Reads (set small 24 (word0 8 7 2)) (with_mark 2 ∷ []) (ok 3)) × (listed (with_mark 2 ∷ []) ≡ [])
 unfolding head_cursor selector active_word copy_start le_bytes crc32 crc_over crc_byte crc_bits crc_bit scan_within
-    scan_from_within next_within step_within step_tests_within damage_tests found_at word0 word2 mark_of kind_of length_of check_of
+    scan_from_within next_within step_within step_tests_within damage_tests found_at word0 word2 mark_of kind_of
+    length_of check_of
     epoch_of size_of record_check read_at ring_word payload_of ring_bytes behind listed
 not_listed = (record { finds = refl; ends = refl }, refl)
 
 -- word 2: an epoch raised, not above the superline's
 pub epoch_raised : Reads (set small 26 (word2 0xB2CA13E2 2)) (with_epoch 2 ∷ []) (ok 3)
 unfolding head_cursor selector active_word copy_start le_bytes crc32 crc_over crc_byte crc_bits crc_bit scan_within
-    scan_from_within next_within step_within step_tests_within damage_tests found_at word0 word2 mark_of kind_of length_of check_of
+    scan_from_within next_within step_within step_tests_within damage_tests found_at word0 word2 mark_of kind_of
+    length_of check_of
     epoch_of size_of record_check read_at ring_word payload_of ring_bytes behind listed
 epoch_raised = record { finds = refl; ends = refl }
 
@@ -121,7 +129,8 @@ pub in_word_0 : (Reads (set small 24 (word0 8 7 3)) [] (damaged 1))
     × (Reads (set small 24 (word0 1025 7 1)) [] (damaged 3)) × (Reads (set small 24 (word0 1024 7 1)) [] (damaged 4))
     × (Reads (set small 24 (word0 8 6 1)) [] (damaged 6))
 unfolding head_cursor selector active_word copy_start le_bytes crc32 crc_over crc_byte crc_bits crc_bit scan_within
-    scan_from_within next_within step_within step_tests_within damage_tests found_at word0 word2 mark_of kind_of length_of check_of
+    scan_from_within next_within step_within step_tests_within damage_tests found_at word0 word2 mark_of kind_of
+    length_of check_of
     epoch_of size_of record_check read_at ring_word payload_of ring_bytes behind listed
 in_word_0 = (
   record { finds = refl; ends = refl },
@@ -135,7 +144,8 @@ in_word_0 = (
 pub in_others : (Reads (set small 25 5) [] (damaged 5)) × (Reads (set small 26 (word2 0xB2CA13E3 1)) [] (damaged 6))
     × (Reads (set small 26 (word2 0xB2CA13E2 3)) [] (damaged 7)) × (Reads (set small 27 0xC6DD8031) [] (damaged 6))
 unfolding head_cursor selector active_word copy_start le_bytes crc32 crc_over crc_byte crc_bits crc_bit scan_within
-    scan_from_within next_within step_within step_tests_within damage_tests found_at word0 word2 mark_of kind_of length_of check_of
+    scan_from_within next_within step_within step_tests_within damage_tests found_at word0 word2 mark_of kind_of
+    length_of check_of
     epoch_of size_of record_check read_at ring_word payload_of ring_bytes behind listed
 in_others = (
   record { finds = refl; ends = refl },
@@ -147,6 +157,7 @@ in_others = (
 -- the word at which the scan ended: damage may follow the records
 pub at_end : Reads (set small 28 (word0 0 7 1)) (only ∷ []) (refused (damaged_by 5 3))
 unfolding head_cursor selector active_word copy_start le_bytes crc32 crc_over crc_byte crc_bits crc_bit scan_within
-    scan_from_within next_within step_within step_tests_within damage_tests found_at word0 word2 mark_of kind_of length_of check_of
+    scan_from_within next_within step_within step_tests_within damage_tests found_at word0 word2 mark_of kind_of
+    length_of check_of
     epoch_of size_of record_check read_at ring_word payload_of ring_bytes behind listed
 at_end = record { finds = refl; ends = refl }

@@ -130,7 +130,8 @@ module _ (image : List ℕ) (op : Opens image) (zs rest : List Found) (r : Found
   payload_word_lem : (q : ℕ) → q < payload_words len → (3 + q ≡ i → ⊥)
       → read_at img c (r.pos + 3 + q) ≡ read_at image c (r.pos + 3 + q)
   unfolding size_of
-  payload_word_lem q l n = subst (λ (p : ℕ). read_at img c p ≡ read_at image c p) {x = r.pos + (3 + q)} {y = r.pos + 3 + q}
+  payload_word_lem q l n =
+      subst (λ (p : ℕ). read_at img c p ≡ read_at image c p) {x = r.pos + (3 + q)} {y = r.pos + 3 + q}
       (omega arith) (other_word (3 + q) (omega arith) n)
 
   -- a word before the payload leaves it
@@ -312,7 +313,8 @@ module _ (image : List ℕ) (op : Opens image) (zs rest : List Found) (r : Found
   is_v : (y : ℕ) → r.pos + i ≡ y → read_at now (area_of image) y ≡ v
   is_v y q = subst (λ (x : ℕ). read_at now (area_of image) x ≡ v) q (this_word image op zs rest r e i held_word v)
 
-  was : (j y : ℕ) → j < 3 → (j ≡ i → ⊥) → r.pos + j ≡ y → read_at now (area_of image) y ≡ read_at image (area_of image) y
+  was : (j y : ℕ) → j < 3 → (j ≡ i → ⊥) → r.pos + j ≡ y
+      → read_at now (area_of image) y ≡ read_at image (area_of image) y
   unfolding size_of
   was j y l n q = subst (λ (x : ℕ). read_at now (area_of image) x ≡ read_at image (area_of image) x) q
       (other_word image op zs rest r e i held_word v j (omega arith) n)
@@ -348,7 +350,8 @@ module _ (image : List ℕ) (op : Opens image) (zs rest : List Found) (r : Found
   bad_kind l m z = refused_there image op zs rest r e 0 low_0 v 2
       (λ u y h s. next-bad-kind table_size image (with 0) s u r y h v l m z is_word_0)
 
-  bad_length : 1 ≤ mark_of v → mark_of v ≤ 2 → 1 ≤ kind_of v → max_payload < length_of v → DamagedAt 3 image (with 0) zs r
+  bad_length : 1 ≤ mark_of v → mark_of v ≤ 2 → 1 ≤ kind_of v → max_payload < length_of v
+      → DamagedAt 3 image (with 0) zs r
   bad_length l m z x = refused_there image op zs rest r e 0 low_0 v 3
       (λ u y h s. next-bad-length table_size image (with 0) s u r y h v l m (λ q. omega arith) x is_word_0)
 

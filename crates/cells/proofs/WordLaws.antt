@@ -16,7 +16,8 @@ use Rattle.layout.specs.Record.{payload_words, record_check}
 use Rattle.layout.specs.Ring.{ring_word, read_at, ring_bytes, payload_of}
 use Rattle.layout.proofs.RingByteLaws.{ring_bytes_append, ring_bytes_same, ring_bytes_bytes, length_ring_bytes}
 
-pub read_other : (image : List ℕ) (w v c p : ℕ) → (w ≡ ring_word c p → ⊥) → read_at (set image w v) c p ≡ read_at image c p
+pub read_other : (image : List ℕ) (w v c p : ℕ) → (w ≡ ring_word c p → ⊥)
+    → read_at (set image w v) c p ≡ read_at image c p
 unfolding read_at
 read_other image w v c p f = get_or-set_other image w (ring_word c p) v 0 (λ e. f (sym e))
 
@@ -85,7 +86,8 @@ module _ (c pos len q : ℕ) (inside : q < payload_words len) where
         ∙ ap₂ (λ (x y : List ℕ). x ++ (le_bytes t b ++ take (left - 8) y))
         (ring_bytes_same new old c (pos + 3) q (λ i l. others i (omega arith) (omega arith)))
         (ring_bytes_same new old c (pos + 3 + q + 1) m
-        (λ i l. subst (λ (p : ℕ). read_at new c p ≡ read_at old c p) {x = pos + 3 + (q + 1 + i)} {y = pos + 3 + q + 1 + i}
+        (λ i l.
+        subst (λ (p : ℕ). read_at new c p ≡ read_at old c p) {x = pos + 3 + (q + 1 + i)} {y = pos + 3 + q + 1 + i}
         (omega arith) (others (q + 1 + i) (omega arith) (omega arith))))
 
     -- they agree in the record's own bytes of it: the payload is the same
@@ -115,7 +117,8 @@ module _ (c pos len q : ℕ) (inside : q < payload_words len) where
         grouped : (x : ℕ)
             → whole (before_in old ++ (le_bytes t x ++ after_in old)) ≡ crc32 (head ++ (le_bytes t x ++ after_in old))
         grouped x = ap crc32
-            (sym (regroup (le_bytes 4 len) (le_bytes 2 kind) (le_bytes 8 lsn) (before_in old) (le_bytes t x ++ after_in old)))
+            (sym (regroup (le_bytes 4 len) (le_bytes 2 kind) (le_bytes 8 lsn) (before_in old)
+            (le_bytes t x ++ after_in old)))
           where
             regroup : (s₁ s₂ s₃ s₄ s₅ : List ℕ) → (s₁ ++ (s₂ ++ (s₃ ++ s₄))) ++ s₅ ≡ s₁ ++ (s₂ ++ (s₃ ++ (s₄ ++ s₅)))
             regroup s₁ s₂ s₃ s₄ s₅ = simp append_assoc

@@ -25,7 +25,8 @@ first : (k : ℕ) → suc k * 3 ≡ suc (suc (suc (k * 3)))
 first k = omega arith
 
 pub ops_at : (buffer : List ℕ) (k : ℕ) → k < length (ops_of buffer)
-    → op_at (ops_of buffer) k ≡ op_of (get_or buffer (k * 3) 0) (get_or buffer (k * 3 + 1) 0) (get_or buffer (k * 3 + 2) 0)
+    → op_at (ops_of buffer) k
+    ≡ op_of (get_or buffer (k * 3) 0) (get_or buffer (k * 3 + 1) 0) (get_or buffer (k * 3 + 2) 0)
 unfolding ops_of
 ops_at [] k h = absurd (omega arith)
 ops_at (a ∷ []) k h = absurd (omega arith)
@@ -69,15 +70,18 @@ ops_long (a ∷ b ∷ c ∷ rest) (suc k) h = let r = ops_long rest k (omega ari
 -- the word that a store names
 pub store_inside : (n : ℕ) (buffer : List ℕ) (k : ℕ) → GoodOps n buffer → k * 3 + 3 ≤ length buffer
     → get_or buffer (k * 3) 0 ≡ 1 → get_or buffer (k * 3 + 1) 0 < n
-store_inside n buffer k good h tag = rw (ops_at buffer k (ops_long buffer k h), eq-eqb (get_or buffer (k * 3) 0) 1 tag) at
+store_inside n buffer k good h tag =
+    rw (ops_at buffer k (ops_long buffer k h), eq-eqb (get_or buffer (k * 3) 0) 1 tag) at
     (good.each k (ops_long buffer k h))
 
 -- a turn of held_at's loop
 pub held_turn : (image buffer : List ℕ) (j w : ℕ) → j * 3 + 3 ≤ length buffer → (new old new' old' : ℕ)
     → (new ≡ newest_at image (ops_of buffer) j w) × (old ≡ flushed_at image (ops_of buffer) j w)
-    → (new' ≡ newest_step (op_of (get_or buffer (j * 3) 0) (get_or buffer (j * 3 + 1) 0) (get_or buffer (j * 3 + 2) 0)) w new)
+    → (new'
+    ≡ newest_step (op_of (get_or buffer (j * 3) 0) (get_or buffer (j * 3 + 1) 0) (get_or buffer (j * 3 + 2) 0)) w new)
     × (old'
-    ≡ flushed_step (op_of (get_or buffer (j * 3) 0) (get_or buffer (j * 3 + 1) 0) (get_or buffer (j * 3 + 2) 0)) w new old)
+    ≡ flushed_step (op_of (get_or buffer (j * 3) 0) (get_or buffer (j * 3 + 1) 0) (get_or buffer (j * 3 + 2) 0)) w new
+    old)
     → (new' ≡ newest_at image (ops_of buffer) (j + 1) w) × (old' ≡ flushed_at image (ops_of buffer) (j + 1) w)
 unfolding newest_at flushed_at
 held_turn image buffer j w h new old new' old' p q =
@@ -88,7 +92,8 @@ pub table_stored : (image buffer : List ℕ) (k : ℕ) (t t' : List Entry) (flus
     → t ≡ table_at image (ops_of buffer) k
     → get_or buffer (k * 3) 0 ≡ 1 → flushed ≡ flushed_at image (ops_of buffer) k (get_or buffer (k * 3 + 1) 0)
     → t' ≡ cond
-    (eqb (get_or buffer (k * 3 + 2) 0) flushed || in_table (get_or buffer (k * 3 + 1) 0) (get_or buffer (k * 3 + 2) 0) t) t
+    (eqb (get_or buffer (k * 3 + 2) 0) flushed
+    || in_table (get_or buffer (k * 3 + 1) 0) (get_or buffer (k * 3 + 2) 0) t) t
     (entry (get_or buffer (k * 3 + 1) 0) (get_or buffer (k * 3 + 2) 0) ∷ t)
     → t' ≡ table_at image (ops_of buffer) (k + 1)
 unfolding table_at

@@ -47,7 +47,8 @@ crash_all n (o ∷ os) d (suc k) m h l = go (crash_all n os (carry_op o d) k m (
   where
     go : (i : ℕ) × (i < total_of n os (carry_op o d)) × (crash_of n os (carry_op o d) i ≡ at k m)
         → (i : ℕ) × (i < count_at n d + total_of n os (carry_op o d))
-        × (cond (ltb i (count_at n d)) (at 0 i) (later (crash_of n os (carry_op o d) (i - count_at n d))) ≡ at (suc k) m)
+        × (cond (ltb i (count_at n d)) (at 0 i) (later (crash_of n os (carry_op o d) (i - count_at n d)))
+        ≡ at (suc k) m)
     go r = (
       count_at n d + r.0,
       omega (arith, r.1),
@@ -63,7 +64,8 @@ unfolding crash_of
 point_below n [] d i = omega arith
 point_below n (o ∷ os) d i = go (ltb i (count_at n d)) refl (point_below n os (carry_op o d) (i - count_at n d))
   where
-    go : (b : Bool) → ltb i (count_at n d) ≡ b → (crash_of n os (carry_op o d) (i - count_at n d)).point ≤ i - count_at n d
+    go : (b : Bool) → ltb i (count_at n d) ≡ b
+        → (crash_of n os (carry_op o d) (i - count_at n d)).point ≤ i - count_at n d
         → (cond b (at 0 i) (later (crash_of n os (carry_op o d) (i - count_at n d)))).point ≤ i
     go true p h = omega arith
     go false p h = omega (arith, h, ltb-false i (count_at n d) p, columns_some d 0 n)
@@ -88,7 +90,8 @@ crash_rises n (o ∷ os) d i j h l = go (ltb i (count_at n d)) (ltb j (count_at 
     go true true p q f = inr (refl, h)
     go true false p q f = inl (omega arith)
     go false true p q f = absurd (omega (arith, ltb-false i (count_at n d) p, ltb-true j (count_at n d) q))
-    go false false p q f = before_later _ _ (f (omega (arith, ltb-false i (count_at n d) p, ltb-false j (count_at n d) q))
+    go false false p q f =
+        before_later _ _ (f (omega (arith, ltb-false i (count_at n d) p, ltb-false j (count_at n d) q))
         (omega (arith, ltb-false j (count_at n d) q)))
 
 not_before : (a b : Crash) → a ≡ b → Before a b → ⊥

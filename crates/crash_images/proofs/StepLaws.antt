@@ -53,7 +53,8 @@ pub newest_is : (image : List ℕ) (os : List Op) (k : ℕ) → k ≤ length os 
 unfolding newest_at carry
 newest_is image os zero h w = refl
 newest_is image os (suc k) h w = ap (newest_step (op_at os k) w) (newest_is image os k (omega arith) w)
-    ∙ newest_step_lem w (op_at os k) (point_of image os k) ∙ sym (ap (λ (d : Device). newest (d w)) (point_suc image os k h))
+    ∙ newest_step_lem w (op_at os k) (point_of image os k)
+    ∙ sym (ap (λ (d : Device). newest (d w)) (point_suc image os k h))
 
 pub flushed_is : (image : List ℕ) (os : List Op) (k : ℕ) → k ≤ length os → (w : ℕ)
     → flushed_at image os k w ≡ (point_of image os k w).flushed
@@ -163,7 +164,8 @@ step_same : (o : Op) (f g : ℕ → ℕ) (t : List Entry) → ((w : ℕ) → f w
 step_same (store x v) f g t h = rw (h x)
 step_same (flush a c) f g t h = refl
 
-pub shows_at : (image : List ℕ) (os : List Op) (k : ℕ) → k ≤ length os → Shows (point_of image os k) (table_at image os k)
+pub shows_at : (image : List ℕ) (os : List Op) (k : ℕ) → k ≤ length os
+    → Shows (point_of image os k) (table_at image os k)
 unfolding table_at carry choices_of values_of
 shows_at image os zero h = λ w. refl
 shows_at image os (suc k) h = subst (λ (d : Device). Shows d (table_at image os (suc k))) (sym (point_suc image os k h))

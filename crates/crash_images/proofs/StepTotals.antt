@@ -61,7 +61,8 @@ crash_number_lem n (o ∷ os) d (suc k) m h l =
         → sum_below (counts n (o ∷ os) d) (suc k) ≡ count_at n d + sum_below (counts n os (carry_op o d)) k
         → cond (ltb (sum_below (counts n (o ∷ os) d) (suc k) + m) (count_at n d))
         (at 0 (sum_below (counts n (o ∷ os) d) (suc k) + m))
-        (later (crash_of n os (carry_op o d) (sum_below (counts n (o ∷ os) d) (suc k) + m - count_at n d))) ≡ at (suc k) m
+        (later (crash_of n os (carry_op o d) (sum_below (counts n (o ∷ os) d) (suc k) + m - count_at n d)))
+        ≡ at (suc k) m
     go r e = rw (le-ltb (sum_below (counts n (o ∷ os) d) (suc k) + m) (count_at n d) (omega arith), back) (ap later r)
       where
         back : sum_below (counts n (o ∷ os) d) (suc k) + m - count_at n d ≡ sum_below (counts n os (carry_op o d)) k + m
@@ -244,7 +245,8 @@ module _ (n : ℕ) (image : List ℕ) (os : List Op) (stores : (k : ℕ) → k <
           absurd (omega (arith, table_square k h))
 
   -- an op makes at most twice as many images
-  pub count_step : (k : ℕ) → k < length os → table_count (table_at image os (suc k)) ≤ 2 * table_count (table_at image os k)
+  pub count_step : (k : ℕ) → k < length os
+      → table_count (table_at image os (suc k)) ≤ 2 * table_count (table_at image os k)
   unfolding table_at
   count_step k h = go (op_at os k) (stores k h)
     where
@@ -259,6 +261,7 @@ module _ (n : ℕ) (image : List ℕ) (os : List Op) (stores : (k : ℕ) → k <
           (count_grows n (entry x v) (table_at image os k) l (inside_at n image os stores k (omega arith))).1
 
       go : (o : Op) → StoresIn n o
-          → table_count (table_step o (flushed_at image os k) (table_at image os k)) ≤ 2 * table_count (table_at image os k)
+          → table_count (table_step o (flushed_at image os k) (table_at image os k))
+          ≤ 2 * table_count (table_at image os k)
       go (store x v) l = stored (eqb v (flushed_at image os k x) || in_table x v (table_at image os k)) x v l
       go (flush f c) l = omega (arith, count_without n f c (inside_at n image os stores k (omega arith)))

@@ -14,7 +14,8 @@ use Rattle.crash_images.specs.InnerSteps.{Entry, entry, entries_in, entries_of, 
 use Rattle.crash_images.proofs.StepLaws.{entries_values}
 
 pub entries_turn : (words values : List ℕ) (j w count count' : ℕ) → count ≡ entries_of w (entries_in words values j)
-    → count' ≡ cond (eqb w (get_or words j 0)) (suc count) count → count' ≡ entries_of w (entries_in words values (j + 1))
+    → count' ≡ cond (eqb w (get_or words j 0)) (suc count) count
+    → count' ≡ entries_of w (entries_in words values (j + 1))
 unfolding entries_in entries_of
 entries_turn words values j w count count' p q = rw (add-one j, ← p) q
 

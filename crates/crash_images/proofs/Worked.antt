@@ -36,12 +36,14 @@ abbrev big : List ℕ
 big = replicate 40 0
 
 pub crash_four : crash_reply big (op_words buffer) 4 40 ≡ ok (record { point = 2; choice = 1 })
-unfolding holds add_choice choices_of columns ways_of way_of total_of crash_of carry_op carry ops_of first_other crash_reply
+unfolding holds add_choice choices_of columns ways_of way_of total_of crash_of carry_op carry ops_of first_other
+    crash_reply
     op_words
 crash_four = refl
 
 pub no_tenth : crash_reply big (op_words buffer) 9 40 ≡ refused (because 23 0)
-unfolding holds add_choice choices_of columns ways_of way_of total_of crash_of carry_op carry ops_of first_other crash_reply
+unfolding holds add_choice choices_of columns ways_of way_of total_of crash_of carry_op carry ops_of first_other
+    crash_reply
     op_words
 no_tenth = refl
 

@@ -85,7 +85,8 @@ kept_first first count words values = record {
 pub kept_next : (first count : ℕ) (words₀ values₀ : List ℕ) (j : ℕ) {words words' values values' : List ℕ}
     {size r : Size}
     → Kept first count words₀ values₀ j words values size → j < length words → j < length values
-    → PutsUnless (within first count (get_or words j 0)) (get_or words j 0) (get_or values j 0) size r words words' values
+    → PutsUnless (within first count (get_or words j 0)) (get_or words j 0) (get_or values j 0) size r words words'
+    values
     values'
     → Kept first count words₀ values₀ (j + 1) words' values' r
 kept_next first count words₀ values₀ j {words} {words'} {values} {values'} {size} {r} k hw hv p =
@@ -103,7 +104,8 @@ kept_next first count words₀ values₀ j {words} {words'} {values} {values'} {
     turned b e q = subst (λ (x : List Entry). IsTable x words' values' r)
         (kept_turn words₀ values₀ first count j _ _ refl
         (rw (← k.word j (omega arith), ← k.value j (omega arith), e)))
-        (unless_table (get_or words j 0) (get_or values j 0) b (without first count (entries_in words₀ values₀ j)) k.table
+        (unless_table (get_or words j 0) (get_or values j 0) b (without first count (entries_in words₀ values₀ j))
+        k.table
         (omega (arith, k.short)) (omega (arith, k.short)) q)
 
     go : (b : Bool) → within first count (get_or words j 0) ≡ b
@@ -166,7 +168,8 @@ module _ (image buffer : List ℕ) (k : ℕ) (size r : Size) (words words' value
       → IsTable (table_at image (ops_of buffer) (k + 1)) words' values' r
   flush_table tag p = subst (λ (x : List Entry). IsTable x words' values' r)
       (table_flushed image buffer k (table_at image (ops_of buffer) k)
-      (without (get_or buffer (k * 3 + 1) 0) (get_or buffer (k * 3 + 2) 0) (entries_in words values size.len)) h refl tag
+      (without (get_or buffer (k * 3 + 1) 0) (get_or buffer (k * 3 + 2) 0) (entries_in words values size.len)) h refl
+      tag
       (rw i.entries)) p
 
   -- a flush leaves tables of no more images

@@ -90,7 +90,8 @@ commits_to (reserve kind len) n st img t =
     (effect (reserved st.next_lsn st.next_pos) (reserve_state st kind len) (reserve_ops st kind len))
     (λ j l. inl l)
 commits_to (copy k offset bytes) n st img t =
-    tested st (copy k offset bytes) (copy_tests st img t k offset bytes) (effect done st (copy_ops st img k offset bytes))
+    tested st (copy k offset bytes) (copy_tests st img t k offset bytes)
+    (effect done st (copy_ops st img k offset bytes))
     (λ j l. inl l)
 commits_to (complete k) n st img t =
     tested st (complete k) (complete_tests st img t k) (effect done (complete_state st k) (complete_ops st img k))

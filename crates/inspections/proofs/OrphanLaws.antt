@@ -96,7 +96,8 @@ module _ (b : AbstractLog) (z : Zone) (zd : Zoned b z) (img : List ℕ) (hn : le
         nonzero h q = false≢true (rw (eq-eqb (named_by img r) 0 (found_names kl ks g ∙ q)) at h)
 
         go : (t : Bool) → g.promise.begun ≡ t
-            → (not (eqb (named_by img r) 0) ≡ true) × (not (is_one_of (named_by img r) earlier) ≡ true) → ReleaseBegun b k
+            → (not (eqb (named_by img r) 0) ≡ true) × (not (is_one_of (named_by img r) earlier) ≡ true)
+            → ReleaseBegun b k
         go true e h = record { promise = g.promise; is = g.is; begun = e }
         go false e h =
             let n = rests k ks g.promise g.is e (nonzero h.0) in

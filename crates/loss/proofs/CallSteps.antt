@@ -361,7 +361,8 @@ module _ (F : ℕ) (some-F : 1 ≤ F) (s : System) {ran : RunLog} (i : Inv s ran
         unbegun = λ j a l. unbegunC j (h.unbegun j a l);
       })
         where
-          shut : (j : ℕ) → c < j → j < q → is_open_stage (entry_of (complete_state s.state k) j).stage ≡ true → Dec (j ≡ k)
+          shut : (j : ℕ) → c < j → j < q → is_open_stage (entry_of (complete_state s.state k) j).stage ≡ true
+              → Dec (j ≡ k)
               → ⊥
           shut j a l o (yes e) = true≢false
               (sym o ∙ ap (λ (y : ℕ). is_open_stage (entry_of (complete_state s.state k) y).stage) e ∙ entry-shut)

@@ -261,10 +261,12 @@ recovered_next : (st : State) (image : List ℕ) (words : ℕ) → (recover_effe
     → (recover_effect st image words).state.committed_lsn ≡ (recover_effect st image words).state.next_lsn - 1
 unfolding recover_effect recover_state recover_state_of
 recovered_next st image words h =
-    go (decided (recover_tests image words) (refused_effect st) (effect done (recover_state image) (recover_ops image))) h
+    go (decided (recover_tests image words) (refused_effect st) (effect done (recover_state image) (recover_ops image)))
+    h
   where
     go : {o : Effect}
-        → Decided (recover_tests image words) (refused_effect st) (effect done (recover_state image) (recover_ops image)) o
+        → Decided (recover_tests image words) (refused_effect st)
+        (effect done (recover_state image) (recover_ops image)) o
         → o.reply ≡ ok done → o.state.committed_lsn ≡ o.state.next_lsn - 1
     go (passed p) e = refl
     go (failed w) e = absurd (refused_ok e)

@@ -146,13 +146,20 @@ last : (◌≡◌ {A = Turn} free free) × (Unit {0} × Unit {0})
 last = (refl, (tt, tt))
 
 lost : Lost 1 × Lost 2 × Lost 8
-unfolding loss rounds round last blank crash_in newest_left le_bytes word_bytes crc_bit crc_bits crc_byte crc_over crc32 size_of
-    word0 mark_of kind_of length_of record_check word2 check_of epoch_of ring_word read_at ring_bytes payload_of copy_start
-    copy_body copy_check copy_words selector active_word number word_at carry_op carry apply follow_ok free_from is_sound entry_in_table
-    with_entry size_from used found_at damage_tests step_tests_within behind step_within next_within superline_bad head_cursor
-    scan_from_within scan_within listed feed_granted feed blank_record reserve_ops reserve_state reserve_effect complete_ops
-    complete_state complete_effect effect_of after after_all formatted mark_store mark_stores mark_flushes force_ops commit_from
-    force_state first_open force_stretch has_multiple is_deferred force_effect format_ops fresh_state format_effect stores
+unfolding loss rounds round last blank crash_in newest_left le_bytes word_bytes crc_bit crc_bits crc_byte crc_over crc32
+    size_of
+    word0 mark_of kind_of length_of record_check word2 check_of epoch_of ring_word read_at ring_bytes payload_of
+    copy_start
+    copy_body copy_check copy_words selector active_word number word_at carry_op carry apply follow_ok free_from
+    is_sound entry_in_table
+    with_entry size_from used found_at damage_tests step_tests_within behind step_within next_within superline_bad
+    head_cursor
+    scan_from_within scan_within listed feed_granted feed blank_record reserve_ops reserve_state reserve_effect
+    complete_ops
+    complete_state complete_effect effect_of after after_all formatted mark_store mark_stores mark_flushes force_ops
+    commit_from
+    force_state first_open force_stretch has_multiple is_deferred force_effect format_ops fresh_state format_effect
+    stores
     flush_ring superline_ops since since_after missing DisciplinedFrom turn_after
 lost = (
   record { disciplined = last; lost = refl },

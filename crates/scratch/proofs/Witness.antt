@@ -90,15 +90,23 @@ pub evaluated : (Passed written notes)
     × (vetted (1 ∷ 23 ∷ 0 ∷ []) ≡ refused (because 21 0)) × (vetted (1 ∷ 40 ∷ 0 ∷ []) ≡ refused (because 21 0))
     × (vetted (2 ∷ 34 ∷ 0 ∷ []) ≡ refused (because 21 0)) × (vetted (2 ∷ 39 ∷ 2 ∷ []) ≡ refused (because 21 0))
     × (vetted (3 ∷ 34 ∷ 1 ∷ []) ≡ refused (because 21 0)) × (vetted (2 ∷ 39 ∷ 1 ∷ 2 ∷ 39 ∷ []) ≡ refused (because 21 1))
-unfolding le_bytes word_bytes crc_bit crc_bits crc_byte crc_over crc32 size_of word0 mark_of kind_of length_of record_check word2
-    check_of epoch_of ring_word read_at ring_bytes payload_of copy_start copy_body copy_check copy_words selector active_word
-    number word_at carry_op carry apply ops_of first_other follow_ok free_from is_sound entry_in_table with_entry size_from used found_at
-    damage_tests step_tests_within behind step_within next_within superline_bad head_cursor scan_from_within scan_within listed
-    feed_granted feed blank_record reserve_ops reserve_state reserve_effect complete_ops complete_state complete_effect effect_of
-    after after_all formatted mark_store mark_stores mark_flushes force_ops commit_from force_state first_open force_stretch
-    has_multiple is_deferred force_effect format_ops fresh_state format_effect rest_of fill_table recover_ops_of recover_state_of
+unfolding le_bytes word_bytes crc_bit crc_bits crc_byte crc_over crc32 size_of word0 mark_of kind_of length_of
+    record_check word2
+    check_of epoch_of ring_word read_at ring_bytes payload_of copy_start copy_body copy_check copy_words selector
+    active_word
+    number word_at carry_op carry apply ops_of first_other follow_ok free_from is_sound entry_in_table with_entry
+    size_from used found_at
+    damage_tests step_tests_within behind step_within next_within superline_bad head_cursor scan_from_within scan_within
+    listed
+    feed_granted feed blank_record reserve_ops reserve_state reserve_effect complete_ops complete_state complete_effect
+    effect_of
+    after after_all formatted mark_store mark_stores mark_flushes force_ops commit_from force_state first_open
+    force_stretch
+    has_multiple is_deferred force_effect format_ops fresh_state format_effect rest_of fill_table recover_ops_of
+    recover_state_of
     recover_ops recover_state recover_effect first_held pos_of free_entries head_at head_ops mark_released release_ops
-    release_state release_effect first_holder names names_one stores flush_ring superline_ops is_among belongs_from is_free_word
+    release_state release_effect first_holder names names_one stores flush_ring superline_ops is_among belongs_from
+    is_free_word
     vet is_in may_hold is_left
     after_scratch after_scratches calls written noted crashed_then recovered history final
 evaluated = (refl, refl, refl, refl, refl, refl, refl, refl, refl, refl, refl, refl, refl, refl, refl)

@@ -40,4 +40,7 @@ returns c =
     sym c.loop-k.invariant.0
     ∙ bad_none a.n c.loop-k.k (drop (c.loop-k.k * 3) a.ops.now) (rw length-drop (omega arith)) in
     let whole = (good_ops a.n 0 a.ops.now e).whole in
-    record { verdict = rw e; stores = λ p. record { flushes = λ j b m. c.loop-k.invariant.2 j b (omega (arith, whole)) } }
+    record {
+      verdict = rw e;
+      stores = λ p. record { flushes = λ j b m. c.loop-k.invariant.2 j b (omega (arith, whole)) };
+    }

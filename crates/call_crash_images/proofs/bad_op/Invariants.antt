@@ -9,7 +9,8 @@ use Rattle.call_crash_images.proofs.bad_op.Given as goal
 -- `call_crash_images::bad_op` meets its contract. The loop's invariant: the ops that are left have the first bad one
 -- that all have, and of those looked at all after so many are flushes. Cites OpLaws.antt.
 abbrev pub invariant-loop-k : goal.invariant-loop-k
-invariant-loop-k l = (first_other (op_ok l.n) l.k (drop (l.k * 3) l.ops) ≡ first_other (op_ok l.n) 0 l.ops) × (l.k * 3 ≤ length l.ops)
+invariant-loop-k l = (first_other (op_ok l.n) l.k (drop (l.k * 3) l.ops) ≡ first_other (op_ok l.n) 0 l.ops)
+    × (l.k * 3 ≤ length l.ops)
     × FlushesTo (ops_of l.ops) l.stores l.k
 
 abbrev pub decreases-loop-k : goal.decreases-loop-k

@@ -63,8 +63,13 @@ put_crash-requires c =
     let a = c.args in
     let t = c.lent_verdict-tested in
     let f = passed (length a.image.now) (length a.output.now) a.ops.now t.result c.in_default.is t.ensures in
-    let e = summed c.total_of-total.ensures c.if-total-gt-MAX_CRASHES.false in
-    (fine_ops f, t.ensures.stores (ap verdict_reply c.in_default.is), sym f.same, omega (arith, e.0, c.if-total-i.false), e.1)
+    let e = summed c.total_of-total.ensures c.if-total-gt-MAX_CRASHES.false in (
+      fine_ops f,
+      t.ensures.stores (ap verdict_reply c.in_default.is),
+      sym f.same,
+      omega (arith, e.0, c.if-total-i.false),
+      e.1,
+    )
 
 pub returns : goal.returns
 returns c =

@@ -9,8 +9,10 @@ use Rattle.call_crash_images.proofs.find_crash.Given as goal
 -- `call_crash_images::find_crash` meets its contract. The loop's invariant: what is left of the number, after the
 -- points before this one, with the table of this one. Cites SumLaws.antt.
 abbrev pub invariant-loop-size : goal.invariant-loop-size
-invariant-loop-size l = (l.i ≡ crashes_before l.image (ops_of l.ops) l.k + l.left) × IsTable (table_at l.image (ops_of l.ops) l.k) l.words l.values l.size
-    × (l.k ≤ length (ops_of l.ops)) × (length l.words ≡ length l.initial.words) × (length l.values ≡ length l.initial.values)
+invariant-loop-size l = (l.i ≡ crashes_before l.image (ops_of l.ops) l.k + l.left)
+    × IsTable (table_at l.image (ops_of l.ops) l.k) l.words l.values l.size
+    × (l.k ≤ length (ops_of l.ops)) × (length l.words ≡ length l.initial.words)
+    × (length l.values ≡ length l.initial.values)
 
 abbrev pub decreases-loop-size : goal.decreases-loop-size
 decreases-loop-size l = length (ops_of l.ops) - l.k

@@ -26,7 +26,8 @@ table_after-size-requires c =
     let a = c.args in
     let on = sum_goes_on l.k _ l.sum c.loop-k-test.true in
     let next : l.k < length (ops_of a.ops.now) = omega (arith, on.0, count_ops c.requires.0) in
-    let few : crashes_before a.image.now (ops_of a.ops.now) (suc l.k) ≤ max_crashes = omega (arith, l.invariant.0, on.1) in
+    let few : crashes_before a.image.now (ops_of a.ops.now) (suc l.k) ≤ max_crashes =
+    omega (arith, l.invariant.0, on.1) in
     let p = point_fits a.image.now a.ops.now c.requires.0 l.k l.invariant.1 l.invariant.2 few in (
       c.requires.0,
       group_inside a.image.now a.ops.now c.requires.0 l.k next,
@@ -44,7 +45,8 @@ overflow_add-sum-in-loop-k c =
     let a = c.args in
     let on = sum_goes_on l.k _ l.sum c.loop-k-test.true in
     let next : l.k < length (ops_of a.ops.now) = omega (arith, on.0, count_ops c.requires.0) in
-    let few : crashes_before a.image.now (ops_of a.ops.now) (suc l.k) ≤ max_crashes = omega (arith, l.invariant.0, on.1) in
+    let few : crashes_before a.image.now (ops_of a.ops.now) (suc l.k) ≤ max_crashes =
+    omega (arith, l.invariant.0, on.1) in
     let fit = next_fits a.image.now a.ops.now c.requires.0 l.k c.table_after-size.ensures next few in
     let n = c.next_change-next.ensures.next in
     record { fits = omega (arith, fit, n.above, n.below, c.next_change-next.type_inv) }
@@ -55,7 +57,8 @@ overflow_add-sum-in-loop-k-2 c =
     let a = c.args in
     let on = sum_goes_on l.k _ l.sum c.loop-k-test.true in
     let next : l.k < length (ops_of a.ops.now) = omega (arith, on.0, count_ops c.requires.0) in
-    let few : crashes_before a.image.now (ops_of a.ops.now) (suc l.k) ≤ max_crashes = omega (arith, l.invariant.0, on.1) in
+    let few : crashes_before a.image.now (ops_of a.ops.now) (suc l.k) ≤ max_crashes =
+    omega (arith, l.invariant.0, on.1) in
     let fit = next_fits a.image.now a.ops.now c.requires.0 l.k c.table_after-size.ensures next few in
     let n = c.next_change-next.ensures.next in
     record { fits = omega (arith, fit, on.1, n.above, n.below, c.next_change-next.type_inv) }

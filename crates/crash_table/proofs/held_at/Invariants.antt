@@ -6,7 +6,9 @@ use Rattle.crash_table.proofs.held_at.Given as goal
 
 -- `crash_table::held_at` meets its contract.
 abbrev pub invariant-loop-j : goal.invariant-loop-j
-invariant-loop-j l = ((l.h.newest ≡ newest_at l.image (ops_of l.ops) l.j l.w) × (l.h.flushed ≡ flushed_at l.image (ops_of l.ops) l.j l.w)) × (l.j ≤ l.k)
+invariant-loop-j l =
+    ((l.h.newest ≡ newest_at l.image (ops_of l.ops) l.j l.w)
+    × (l.h.flushed ≡ flushed_at l.image (ops_of l.ops) l.j l.w)) × (l.j ≤ l.k)
 
 abbrev pub decreases-loop-j : goal.decreases-loop-j
 decreases-loop-j l = l.k - l.j
