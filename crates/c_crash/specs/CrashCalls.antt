@@ -13,7 +13,8 @@ use Rattle.c_reply.specs.ReplyWords.{reply_size, reply_after}
 abbrev pub replied : {A : Type 0} → ℕ → Reply A → Reply A
 replied reply answer = decide (test (ltb reply reply_size) 14 0 ∷ []) refused answer
 
--- the call that counts: it returns the number of crashes
+-- the call that counts: it returns the number of crashes; image and op buffer are lent to be read alone, so they are
+-- given as what they hold
 abbrev pub count_on : List ℕ → List ℕ → ℕ → Reply ℕ
 count_on image ops reply = replied reply (count_reply image ops)
 
@@ -21,9 +22,9 @@ pub record CountsTo (o : Reply ℕ) (r : ℤ) (reply reply' : List ℕ) : Type 0
   pub returned : r ≡ signed (λ n. n) o
   pub told : reply' ≡ reply_after (λ n. 0) 0 o reply
 
-abbrev pub CountCall : ℤ → Lent → Lent → Lent → Type 0
+abbrev pub CountCall : ℤ → List ℕ → List ℕ → Lent → Type 0
 CountCall r image ops reply =
-    CountsTo (count_on (given image) (given ops) (room reply)) r (given reply) (left reply)
+    CountsTo (count_on image ops (room reply)) r (given reply) (left reply)
 
 -- the call that puts an image: it returns the crash point
 abbrev pub crash_on : List ℕ → List ℕ → ℕ → ℕ → ℕ → Reply Crash
@@ -35,7 +36,7 @@ pub record PutsTo (image : List ℕ) (os : List Op) (o : Reply Crash) (r : ℤ) 
   pub put : output' ≡ output_left image os o output
   pub told : reply' ≡ reply_after (λ (c : Crash). 0) 0 o reply
 
-abbrev pub ImageCall : ℕ → ℤ → Lent → Lent → Lent → Lent → Type 0
+abbrev pub ImageCall : ℕ → ℤ → List ℕ → List ℕ → Lent → Lent → Type 0
 ImageCall number r image ops output reply =
-    PutsTo (given image) (ops_of (given ops)) (crash_on (given image) (given ops) number (room output) (room reply)) r
+    PutsTo image (ops_of ops) (crash_on image ops number (room output) (room reply)) r
     (given output) (left output) (given reply) (left reply)

@@ -33,7 +33,7 @@ fn report(answer: CrashAnswer, reply: &mut [u64]) -> i64
 
 // How many crashes there are over an image and an op buffer.
 pub fn drivelog_crash_count(image: &[u64], ops: &[u64], reply: &mut [u64]) -> i64
-    ensures { CountCall result image ops reply }
+    ensures { CountCall result image.now ops.now reply }
 {
     if reply.len() < REPLY_WORDS {
         return put_refusal(Refusal::OutputShort, reply);
@@ -50,7 +50,7 @@ pub fn drivelog_crash_image(
     output: &mut [u64],
     reply: &mut [u64],
 ) -> i64
-    ensures { ImageCall number result image ops output reply }
+    ensures { ImageCall number result image.now ops.now output reply }
 {
     if reply.len() < REPLY_WORDS {
         return put_refusal(Refusal::OutputShort, reply);
