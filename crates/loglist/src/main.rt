@@ -1,8 +1,12 @@
-// The program loglist: reads an image's bytes from standard input and prints the records that it lists. What it prints
-// is `bytesText` of what it reads, by the contract of `list_bytes`; that it reads and prints is beyond any contract.
+// The program loglist: reads an image's bytes from standard input and prints the records that it lists. The contract of
+// `list_input` says what it writes, at any reader and writer whose bytes a contract can name: `bytes_text` of the first
+// 65,537 bytes that it reads. Of standard input and output no contract can say what they give and take.
 #![tactic(auto)]
 
-ghost use Rattle.std.specs.Prelude.{◌≡◌, length};
+ghost use Rattle.std.specs.Prelude.{◌≡◌, ◌≤◌, OnOk, IfSome, take, length};
+ghost use Rattle.std.specs.Io.KnownBytes.{Appends};
+ghost use Rattle.text.specs.Text.{Appended};
+ghost use Rattle.list_image.specs.Listing.{bytes_text, listing_room};
 
 use list_image::{Listed, list_bytes, listing_room};
 use read_input::read_full;
@@ -16,18 +20,36 @@ fn input_room() -> [u8; 65537]
     [0; 65537]
 }
 
-// Reads an image's bytes and writes the listing.
-fn list_input<R: Read, W: Write>(from: &mut R, to: &mut W) -> io::Result<()> {
-    let mut input = input_room();
-    let n = read_full(from, &mut input)?;
-    let mut text = listing_room();
-    let listed = list_bytes(&input[..n], &mut text);
+// Puts the listing of an image's bytes, from the room's start on.
+fn put_listing(input: &[u8], text: &mut [u8]) -> usize
+    requires { listing_room ≤ length text.old }
+    ensures { Appended 0 result text.old text.new (bytes_text input.now) }
+{
+    let listed = list_bytes(input, text);
     match listed {
-        Listed::Text(end) => to.write_all(&text[..end]),
-        Listed::NoRoom => Ok(()),
+        Listed::Text(end) => end,
+        Listed::NoRoom => 0,
     }
 }
 
+// Reads an image's bytes into the first room, and writes the listing, made in the second.
+fn list_input<R: Read, W: Write>(
+    from: &mut R,
+    to: &mut W,
+    input: &mut [u8],
+    text: &mut [u8],
+) -> io::Result<()>
+    requires { listing_room ≤ length text.old }
+    ensures { OnOk result (IfSome (R.remaining from.old)
+        (λ bytes. Appends (W.contents to.old) (W.contents to.new) (bytes_text (take (length input.old) bytes)))) }
+{
+    let n = read_full(from, input)?;
+    let end = put_listing(&input[..n], text);
+    to.write_all(&text[..end])
+}
+
 fn main(rt: HostRuntime) -> io::Result<()> {
-    list_input(&mut rt.stdin(), &mut rt.stdout())
+    let mut input = input_room();
+    let mut text = listing_room();
+    list_input(&mut rt.stdin(), &mut rt.stdout(), &mut input, &mut text)
 }
