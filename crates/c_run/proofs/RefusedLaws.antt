@@ -36,7 +36,8 @@ tested_leaves s ts granted h = go (decided ts (refused_effect s) granted)
 
 module _ (s : State) (image : List ℕ) (words : ℕ) where
   pub refused_leaves : (c : Call) → Leaves s (effect_of c s image words)
-  unfolding effect_of reserve_effect copy_effect complete_effect force_effect force_stretch release_effect release_all_effect
+  unfolding effect_of reserve_effect copy_effect complete_effect force_effect force_stretch release_effect
+      release_all_effect
       recover_effect
   refused_leaves (reserve kind len) = tested_leaves s (reserve_tests s image words kind len) _
       (granted_leaves s (reserved s.next_lsn s.next_pos) (reserve_state s kind len) (reserve_ops s kind len))

@@ -2,7 +2,8 @@
 use Rattle.std.proofs.Common.{◌≡◌, ℕ, List, Option, None, Some, Result, Ok, Err, OnOk, IfSome, subst, take}
 use Rattle.std.specs.Io.KnownBytes.{Appends}
 
-pub written : {A E : Type 0} (r : Result A E) (known old new : Option (List ℕ)) (text : List ℕ → List ℕ) (k : ℕ) (got : List ℕ)
+pub written : {A E : Type 0} (r : Result A E) (known old new : Option (List ℕ)) (text : List ℕ → List ℕ) (k : ℕ)
+    (got : List ℕ)
     → IfSome known (λ xs. got ≡ take k xs) → OnOk r (Appends old new (text got))
     → OnOk r (IfSome known (λ xs. Appends old new (text (take k xs))))
 written (Ok a) None old new text k got first p = tt

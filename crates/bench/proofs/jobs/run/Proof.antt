@@ -21,8 +21,10 @@ pub run_spec : {M : Type 1} → statement M
 run_spec =
     tie.close
     (tie.spec (λ c. λ κs. search rules) (λ c. λ κs. search rules) (λ c. length-take_of_le _ _ (search rules))
-    (λ c. search rules) (λ c. length-take_of_le _ _ (search rules)) crc-job-requires (λ c. search rules) (λ c. search rules)
+    (λ c. search rules) (λ c. length-take_of_le _ _ (search rules)) crc-job-requires (λ c. search rules)
+    (λ c. search rules)
     (λ c. λ κs. search rules) (λ c. search rules) (λ c. length-take_of_le _ _ (search rules))
     (λ c. length-take_of_le _ _ (search rules)) (λ c. λ κs. search rules) (λ c. search rules) (λ c. search rules)
-    (λ c. search rules) (λ c. search rules) (λ c. length-take_of_le _ _ (search rules)) (λ c. length-take_of_le _ _ (search rules))
+    (λ c. search rules) (λ c. search rules) (λ c. length-take_of_le _ _ (search rules))
+    (λ c. length-take_of_le _ _ (search rules))
     (λ c. λ κs. search rules) (λ c. search rules) (λ c. search rules) (λ c. search rules) (λ c. search rules))

@@ -5,7 +5,8 @@ use Rattle.bench.proofs.log.release_over.Statement.{statement}
 use Rattle.bench.proofs.log.release_over.Tie as tie
 
 abbrev invariant-loop : tie.invariant-loop
-invariant-loop s image₀ ops₀ lsn count left₀ image ops left = (length image ≡ length image₀) × (length ops ≡ length ops₀)
+invariant-loop s image₀ ops₀ lsn count left₀ image ops left = (length image ≡ length image₀)
+    × (length ops ≡ length ops₀)
 
 abbrev decreases-loop : tie.decreases-loop
 decreases-loop s image₀ ops₀ lsn count left₀ image ops left = left

@@ -5,7 +5,8 @@ use Rattle.bench.proofs.log.trim.Statement.{statement}
 use Rattle.bench.proofs.log.trim.Tie as tie
 
 abbrev invariant-loop : tie.invariant-loop
-invariant-loop image₀ ops₀ live t₀ turns₀ image ops t turns = (length image ≡ length image₀) × (length ops ≡ length ops₀)
+invariant-loop image₀ ops₀ live t₀ turns₀ image ops t turns = (length image ≡ length image₀)
+    × (length ops ≡ length ops₀)
 
 abbrev decreases-loop : tie.decreases-loop
 decreases-loop image₀ ops₀ live t₀ turns₀ image ops t turns = turns
