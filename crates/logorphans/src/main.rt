@@ -1,9 +1,14 @@
 // The program logorphans: reads an image's bytes from standard input and prints the LSNs of the listed records that name
-// an inspection which no earlier listed record is. What it prints is `orphansText` of what it reads, by the contract of
-// `list_orphans`; that it reads and prints is beyond any contract.
+// an inspection which no earlier listed record is. The contract of `list_input` says what it writes, at any reader and
+// writer whose bytes a contract can name: `orphans_text` of the first 65,537 bytes that it reads. Of standard input and
+// output no contract can say what they give and take.
 #![tactic(auto)]
 
-ghost use Rattle.std.specs.Prelude.{◌≡◌, length};
+ghost use Rattle.std.specs.Prelude.{◌≡◌, ◌≤◌, OnOk, IfSome, take, length};
+ghost use Rattle.std.specs.Io.KnownBytes.{Appends};
+ghost use Rattle.text.specs.Text.{Appended};
+ghost use Rattle.list_image.specs.Listing.{listing_room};
+ghost use Rattle.list_orphans.specs.OrphansText.{orphans_text};
 
 use list_image::{Listed, listing_room};
 use list_orphans::list_orphans;
@@ -18,18 +23,36 @@ fn input_room() -> [u8; 65537]
     [0; 65537]
 }
 
-// Reads an image's bytes and writes the LSNs of its orphans.
-fn list_input<R: Read, W: Write>(from: &mut R, to: &mut W) -> io::Result<()> {
-    let mut input = input_room();
-    let n = read_full(from, &mut input)?;
-    let mut text = listing_room();
-    let listed = list_orphans(&input[..n], &mut text);
+// Puts the orphans' LSNs of an image's bytes, from the room's start on.
+fn put_orphans(input: &[u8], text: &mut [u8]) -> usize
+    requires { listing_room ≤ length text.old }
+    ensures { Appended 0 result text.old text.new (orphans_text input.now) }
+{
+    let listed = list_orphans(input, text);
     match listed {
-        Listed::Text(end) => to.write_all(&text[..end]),
-        Listed::NoRoom => Ok(()),
+        Listed::Text(end) => end,
+        Listed::NoRoom => 0,
     }
 }
 
+// Reads an image's bytes into the first room, and writes the orphans' LSNs, put into the second.
+fn list_input<R: Read, W: Write>(
+    from: &mut R,
+    to: &mut W,
+    input: &mut [u8],
+    text: &mut [u8],
+) -> io::Result<()>
+    requires { listing_room ≤ length text.old }
+    ensures { OnOk result (IfSome (R.remaining from.old)
+        (λ bytes. Appends (W.contents to.old) (W.contents to.new) (orphans_text (take (length input.old) bytes)))) }
+{
+    let n = read_full(from, input)?;
+    let end = put_orphans(&input[..n], text);
+    to.write_all(&text[..end])
+}
+
 fn main(rt: HostRuntime) -> io::Result<()> {
-    list_input(&mut rt.stdin(), &mut rt.stdout())
+    let mut input = input_room();
+    let mut text = listing_room();
+    list_input(&mut rt.stdin(), &mut rt.stdout(), &mut input, &mut text)
 }
