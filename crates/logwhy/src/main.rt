@@ -1,9 +1,13 @@
 // The program logwhy: reads an image's bytes and after them an LSN, 8 bytes, from standard input, and prints why that
-// LSN is listed or not. What it prints is `replyLine (inputWhy ..)` of what it reads, by the contract of `why_line`;
-// that it reads and prints is beyond any contract.
+// LSN is listed or not. The contract of `answer_input` says what it writes, at any reader and writer whose bytes a
+// contract can name: the line of the reason that the first 65,545 bytes it reads have. Of standard input and output no
+// contract can say what they give and take.
 #![tactic(auto)]
 
-ghost use Rattle.std.specs.Prelude.{◌≡◌, length};
+ghost use Rattle.std.specs.Prelude.{◌≡◌, OnOk, IfSome, take, length};
+ghost use Rattle.std.specs.Io.KnownBytes.{Appends};
+ghost use Rattle.why_listed.specs.Reasons.{input_reason};
+ghost use Rattle.why_listed.specs.Line.{reply_line};
 
 use read_input::read_full;
 use std::io;
@@ -17,15 +21,19 @@ fn input_room() -> [u8; 65545]
     [0; 65545]
 }
 
-// Reads an image's bytes and an LSN, and writes the line that says why.
-fn answer_input<R: Read, W: Write>(from: &mut R, to: &mut W) -> io::Result<()> {
-    let mut input = input_room();
-    let n = read_full(from, &mut input)?;
+// Reads an image's bytes and an LSN into the room, and writes the line that says why.
+fn answer_input<R: Read, W: Write>(from: &mut R, to: &mut W, input: &mut [u8]) -> io::Result<()>
+    ensures { OnOk result (IfSome (R.remaining from.old)
+        (λ bytes. Appends (W.contents to.old) (W.contents to.new)
+        (reply_line (input_reason (take (length input.old) bytes))))) }
+{
+    let n = read_full(from, input)?;
     let mut line = [0u8; LINE_ROOM];
     let end = why_line(&input[..n], &mut line);
     to.write_all(&line[..end])
 }
 
 fn main(rt: HostRuntime) -> io::Result<()> {
-    answer_input(&mut rt.stdin(), &mut rt.stdout())
+    let mut input = input_room();
+    answer_input(&mut rt.stdin(), &mut rt.stdout(), &mut input)
 }
