@@ -1,10 +1,17 @@
 // The program logload: reads what loglist prints from standard input, and writes the bytes of an image of 8,192 words
-// that lists the same, or a refusal. The image is `load` of what it reads, by the contract of `load_text`, and the bytes
-// are those of its words; that it reads and writes is beyond any contract.
+// that lists the same, or a refusal. The contract of `load_input` says what it writes, at any reader and writer whose
+// bytes a contract can name: `loaded_bytes` of the first 262,145 bytes that it reads, which are the bytes of the image
+// that `load` makes, or the line of its refusal. Of standard input and output no contract can say what they give and
+// take.
 #![tactic(auto)]
 
-ghost use Rattle.std.specs.Prelude.{◌≡◌, length};
+ghost use Rattle.std.specs.Prelude.{◌≡◌, OnOk, IfSome, take, length};
+ghost use Rattle.std.specs.Io.KnownBytes.{Appends};
+ghost use Rattle.refusal.specs.Refusals.{number_of};
 ghost use Rattle.crc_spec.specs.Bytes.{word_bytes};
+ghost use Rattle.list_lines.specs.Lines.{refused_line};
+ghost use Rattle.load_image.specs.LoadImage.{answer_reply};
+ghost use Rattle.logload.specs.Output.{reply_bytes, loaded_bytes};
 
 use list_lines::refused_line;
 use load_bytes::put_words;
@@ -45,30 +52,56 @@ fn image_bytes(image: &[u64; 8192]) -> [u8; 65536]
 }
 
 // Writes an image's bytes.
-fn write_image<W: Write>(to: &mut W, image: &[u64; 8192]) -> io::Result<()> {
+fn write_image<W: Write>(to: &mut W, image: &[u64; 8192]) -> io::Result<()>
+    ensures { OnOk result (Appends (W.contents to.old) (W.contents to.new) (word_bytes image.now)) }
+{
     let bytes = image_bytes(image);
     to.write_all(&bytes)
 }
 
 // Writes the line of a refusal.
-fn write_refusal<W: Write>(to: &mut W, why: Refusal) -> io::Result<()> {
+fn write_refusal<W: Write>(to: &mut W, why: Refusal) -> io::Result<()>
+    ensures { OnOk result (Appends (W.contents to.old) (W.contents to.new) (refused_line (number_of why))) }
+{
     let mut line = [0u8; 29];
     let end = refused_line(&mut line, 0, number_of(why));
     to.write_all(&line[..end])
 }
 
-// Reads a listing's text and writes the image's bytes, or a refusal.
-fn load_input<R: Read, W: Write>(from: &mut R, to: &mut W) -> io::Result<()> {
-    let mut input = input_room();
-    let n = read_full(from, &mut input)?;
-    let mut image = image_room();
-    let answer = load_text(&input[..n], &mut image);
+// Writes what a loading answers: the image's bytes, or a refusal.
+fn write_answer<W: Write>(to: &mut W, answer: Answer, image: &[u64; 8192]) -> io::Result<()>
+    ensures { OnOk result (Appends (W.contents to.old) (W.contents to.new) (reply_bytes (answer_reply answer image.now))) }
+{
     match answer {
-        Answer::Done => write_image(to, &image),
+        Answer::Done => write_image(to, image),
         Answer::Refused(why) => write_refusal(to, why),
     }
 }
 
+// Loads a listing's text into an image.
+fn load_whole(input: &[u8], image: &mut [u64; 8192]) -> Answer
+    ensures { reply_bytes (answer_reply result image.new) ≡ loaded_bytes input.now }
+{
+    load_text(input, image)
+}
+
+// Reads a listing's text into a room and writes the image's bytes, or a refusal.
+fn load_input<R: Read, W: Write>(
+    from: &mut R,
+    to: &mut W,
+    input: &mut [u8],
+    image: &mut [u64; 8192],
+) -> io::Result<()>
+    ensures { OnOk result (IfSome (R.remaining from.old)
+        (λ bytes. Appends (W.contents to.old) (W.contents to.new) (loaded_bytes (take (length input.old) bytes)))) }
+{
+    let n = read_full(from, input)?;
+    let answer = load_whole(&input[..n], image);
+    write_answer(to, answer, image)
+}
+
 fn main(rt: HostRuntime) -> io::Result<()> {
-    load_input(&mut rt.stdin(), &mut rt.stdout())
+    let mut input = input_room();
+    let mut image = image_room();
+    load_input(&mut rt.stdin(), &mut rt.stdout(), &mut input, &mut image)
 }

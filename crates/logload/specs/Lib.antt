@@ -1,0 +1,2 @@
+-- Definitions, a file for each subject: what the contracts cite.
+pub mod Output
