@@ -1,0 +1,10 @@
+-- `bench::log::release_behind` is safe and ends. The measure is the number of turns left.
+-- Assumes nothing.
+use Rattle.std.proofs.Common.{◌≡◌, length}
+use Rattle.bench.proofs.log.release_behind.Given as goal
+
+abbrev pub invariant-loop-left : goal.invariant-loop-left
+invariant-loop-left l = (length l.image ≡ length l.initial.image) × (length l.ops ≡ length l.initial.ops)
+
+abbrev pub decreases-loop-left : goal.decreases-loop-left
+decreases-loop-left l = l.left
