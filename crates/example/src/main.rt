@@ -3,8 +3,6 @@
 // makes the same history with calls of its own; the file stdout is its text.
 #![tactic(auto)]
 
-ghost use Rattle.std.specs.Prelude.{◌≤◌, length};
-
 use drivelog::{Answer, State};
 use list_image::{Listed, list_image, listing_room};
 use std::io;
@@ -97,23 +95,6 @@ fn first_run() -> [u64; WORDS] {
     module
 }
 
-// Puts the listing of an image, from the room's start on. Answers where its text ends.
-fn put_listing(image: &[u64], text: &mut [u8]) -> usize
-    ensures { result ≤ length text.old }
-{
-    let listed = list_image(image, text);
-    match listed {
-        Listed::Text(end) => end,
-        Listed::NoRoom => 0,
-    }
-}
-
-// Prints the listing of an image, made in a room that is lent.
-fn print_listing(rt: &impl Print, image: &[u64], text: &mut [u8]) -> io::Result<()> {
-    let end = put_listing(image, text);
-    rt.write_all(&text[..end])
-}
-
 // The next run: recovers the log from what the module holds, and prints its records, as the program loglist does.
 fn next_run(rt: &impl Print, mut module: [u64; WORDS]) -> io::Result<()> {
     let mut image = module;
@@ -121,7 +102,11 @@ fn next_run(rt: &impl Print, mut module: [u64; WORDS]) -> io::Result<()> {
     let recovered = drivelog::recover(&mut image, &mut ops);
     carry_out(&ops, recovered.ops, &mut module);
     let mut text = listing_room();
-    print_listing(rt, &image, &mut text)
+    let listed = list_image(&image, &mut text);
+    match listed {
+        Listed::Text(end) => rt.write_all(&text[..end]),
+        Listed::NoRoom => Ok(()),
+    }
 }
 
 fn main(rt: HostRuntime) -> io::Result<()> {
