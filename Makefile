@@ -29,7 +29,7 @@ driver_archive = target/install/libdrivelog-driver.a
 
 help:
 	@echo "make demo          a log in a file, whose writer is killed in the middle, recovered and listed; then one on three modules"
-	@echo "make test          the gate: proofs from nothing, edits that must be refused, all comparisons; .ci/run calls it"
+	@echo "make test          the gate: every proof, edits that must be refused, all comparisons; .ci/run calls it"
 	@echo "make prove         every function and theorem from nothing, with no program run"
 	@echo "make lib           the calls for C, proved: $(archive), for include/drivelog.h"
 	@echo "make tool          the command-line tool $(tool), over that archive and driver/"
@@ -51,7 +51,7 @@ help:
 	@echo "make bench-export  how long drivelog export takes for 1,000 files, beside plain Rust, ROUNDS=31"
 	@echo "make worst         what each call for C costs at worst: instructions, by callgrind, and stack"
 	@echo "make speed         how long loglist takes for a full image, beside one in plain Rust"
-	@echo "make clean         removes target/ and reference/target/, and with them what was proved"
+	@echo "make clean         removes target/ and reference/target/; what was proved is kept in crates/*/out"
 
 demo: tool
 	@tests/cli/demo $(tool)
@@ -69,7 +69,7 @@ load:
 lib: $(archive)
 
 # tools/archive says how. Says crate by crate how far the proofs are; what the checks say is shown only if one fails.
-$(archive): $(c_sources) crates.txt tools/rt
+$(archive): $(c_sources) crates.txt tools/rt tools/archive
 	@tools/need lib rt
 	@mkdir -p target
 	@tools/progress target/lib.log $(c_crate) -- tools/archive

@@ -18,7 +18,7 @@
  * repairs it. A drive on one module needs that one in step, a drive on three needs two. With fewer, no call of the log is made any more, and
  * each answers HANDLE_TOO_FEW (a force HANDLE_NOT_DURABLE); what the working image holds can still be read, and handle_recover tries again.
  *
- * What is promised on three modules, by the theorem `append-three-safe` (slip 9, crates/append_three/specs/AppendThree.antt), as far as the
+ * What is promised on three modules, by the theorem `append_three_safe` (slip 9, crates/append_three/specs/AppendThree.antt), as far as the
  * driver does what it owes (driver.h). If
  *
  *     - the formatting was carried out on all three,

@@ -45,6 +45,6 @@ fn main(rt: HostRuntime) -> io::Result<()> {
     let mut ops = room::words();
     let payload = room::payload();
     let mut text = listing_room();
-    let done = jobs::run(&rt, job, &mut image, &mut ops, &payload, &mut text)?;
+    let done = jobs::run(&rt, job, &mut image, &mut ops, &payload, &mut text);
     print(&rt, done.microseconds, done.digest)
 }

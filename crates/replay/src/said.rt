@@ -40,7 +40,7 @@ pub fn of_answer(answer: Answer, ops: u64) -> Said {
         Answer::Done => short(AnswerWord::Ok, 0, 0, 0, ops),
         Answer::Reserved(lsn, pos) => short(AnswerWord::Ok, 2, lsn, pos, ops),
         Answer::Durable => short(AnswerWord::Kept, 0, 0, 0, ops),
-        Answer::Deferred => short(AnswerWord::Deferred, 0, 0, 0, ops),
+        Answer::Deferred => short(AnswerWord::PutOff, 0, 0, 0, ops),
         Answer::Refused(why) => refused(why),
     }
 }

@@ -14,7 +14,7 @@ use words_state::{FIRST_ENTRY, STATE_WORDS, entry_from};
 pub enum AnswerWord {
     Ok,
     Kept,
-    Deferred,
+    PutOff,
     Record,
     End,
     Refused,
@@ -54,7 +54,7 @@ fn put_word(rt: &impl Print, out: &mut [u8; TEXT_SIZE], word: AnswerWord) -> io:
     match word {
         AnswerWord::Ok => put_text(rt, out, b" ok"),
         AnswerWord::Kept => put_text(rt, out, b" kept"),
-        AnswerWord::Deferred => put_text(rt, out, b" putoff"),
+        AnswerWord::PutOff => put_text(rt, out, b" putoff"),
         AnswerWord::Record => put_text(rt, out, b" record"),
         AnswerWord::End => put_text(rt, out, b" end"),
         AnswerWord::Refused => put_text(rt, out, b" refused"),
