@@ -7,10 +7,10 @@ ROUNDS ?= 31
 reference = reference/target/release/reference
 archive = target/lib/libdrivelog.a
 tool = target/bin/drivelog
-# The crate whose functions are the calls for C: those that read an image's bytes, and those of the log with its state in lent words.
-c_crate = drivelog_c
-# What the archive is made of: the files of this crate and of all that it stands on.
-c_sources := $(shell tools/sources $(c_crate))
+# The crates that export the calls for C: those that read an image's bytes, and those of the log with its state in lent words.
+c_crates = c_query_c c_read_c c_write_c c_append_c c_three_c c_vet_c c_crash_c
+# What the archive is made of: the files of these crates and of all that they stand on.
+c_sources := $(shell tools/sources $(c_crates))
 cli_c = $(wildcard cli/*.c driver/*.c)
 cli_h = $(wildcard cli/*.h driver/*.h include/*.h)
 # The version has one place, the header.
@@ -72,7 +72,7 @@ lib: $(archive)
 $(archive): $(c_sources) crates.txt tools/rt tools/archive
 	@tools/need lib rt
 	@mkdir -p target
-	@tools/progress target/lib.log $(c_crate) -- tools/archive
+	@tools/progress target/lib.log $(c_crates) -- tools/archive $(c_crates)
 
 tool: $(tool)
 
