@@ -68,7 +68,7 @@ load:
 
 lib: $(archive)
 
-# tools/archive says how. Says crate by crate how far the proofs are; what the checks say is shown only if one fails.
+# tools/archive says how. What the checks say is shown only if one fails.
 $(archive): $(c_sources) crates.txt tools/rt tools/archive
 	@tools/need lib rt
 	@mkdir -p target
