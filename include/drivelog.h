@@ -276,7 +276,7 @@ int64_t drivelog_payload_at(const uint8_t *image, size_t bytes, uint64_t pos, ui
  * type. Where the count is 0 the pointer is not followed and may be null. What is written may overlap nothing else that is lent to
  * the same call. A call keeps nothing and allocates nothing, so calls with different words may run in several threads at once.
  *
- * Stack: a call takes at most 20,480 bytes (20 KB), the recovery of three 40,960; reserve, copy, complete, force, append, release and
+ * Stack: a call takes at most 20,480 bytes (20 KB), the recovery of three 32,768; reserve, copy, complete, force, append, release and
  * vet take at most 1,024.
  *
  * Time: every call tests the whole state, so that it grows with the live records. A record by reserve, copy, complete, force at
@@ -501,7 +501,7 @@ int64_t drivelog_recover_three(uint64_t *state, size_t state_words, uint64_t *im
      Returns the number of the chosen copy, 0 to 2, or -DRIVELOG_IMAGE_SIZE (unequal lengths too), -DRIVELOG_UNSOUND (state_words is
    not DRIVELOG_STATE_WORDS), -DRIVELOG_TOO_FEW_COPIES, -DRIVELOG_NUMBERS_SPENT or -DRIVELOG_OPS_SHORT.
 
-     It takes at most 40,960 bytes of stack (40 KB), and the time of a drivelog_recover for each present module, with a pass more over the
+     It takes at most 32,768 bytes of stack (32 KB), and the time of a drivelog_recover for each present module, with a pass more over the
    words of one that differs.
 
      Example, with module 1 absent:
