@@ -90,7 +90,8 @@ one_byte : AllBytes (3 ∷ [])
 one_byte zero = lit< tt
 one_byte (suc i) = lit< tt
 
--- ---------------------------------------------------------------- what it leaves, and that it is possible, by evaluation
+-- ---------------------------------------------------------------- what it leaves, and that it is possible, by
+-- evaluation
 abbrev present : Slot → Bool
 present = each false true true
 
@@ -104,7 +105,8 @@ promised kind bytes durable =
 pub record Seen : Type 0 where
   -- each append is one that can befall each module
   pub can : (i : Slot)
-      → (can_befall (append_part start 17 (1 ∷ 2 ∷ []) 1 99 first_fates false i) (first_fates i) (start.modules i) ≡ true)
+      → (can_befall (append_part start 17 (1 ∷ 2 ∷ []) 1 99 first_fates false i) (first_fates i) (start.modules i)
+      ≡ true)
       × (can_befall (append_part forced 18 (3 ∷ []) 3 99 next_fates true i) (next_fates i) (forced.modules i) ≡ true)
   -- the first is durable, the next deferred
   pub durable : (append_on start 17 (1 ∷ 2 ∷ []) 1 99).reply ≡ ok (appended 1 1)
