@@ -19,7 +19,7 @@
  * Time: every call but drivelog_payload_at tests the superline, then reads the whole log and computes the check of every record,
  * whatever it is asked; a payload is copied after that. On a full image of the largest size a call takes 25 to 40 microseconds
  * (docs/SPEED.md), so that to ask one record at a time, count and then kind, LSN and payload of 64 records, takes 193 calls and 5 to
- * 8 milliseconds. To go through all records, ask drivelog_list once, and drivelog_payload_at for the payloads that matter.
+ * 9 milliseconds. To go through all records, ask drivelog_list once, and drivelog_payload_at for the payloads that matter.
  */
 
 #ifndef DRIVELOG_H
