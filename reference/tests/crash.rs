@@ -21,10 +21,19 @@ fn bench(shortcut: Option<usize>, seed: u64, seconds: u64) -> Report {
 
 #[test]
 fn no_failure_without_a_short_cut() {
-    let report = bench(None, 77, 4);
-    assert!(report.failure.is_none(), "{:?}", report.failure);
-    assert!(report.images > 100);
-    assert!(report.append_crashes > 10, "{}", report.append_crashes);
+    // Four seconds do for more than 100 images and 10 crashes in an append; on a busy machine other histories follow, for a
+    // minute at most.
+    let (mut images, mut append_crashes) = (0, 0);
+    for round in 0..15 {
+        let report = bench(None, 77 + 10_000 * round, 4);
+        assert!(report.failure.is_none(), "{:?}", report.failure);
+        images += report.images;
+        append_crashes += report.append_crashes;
+        if images > 100 && append_crashes > 10 {
+            return;
+        }
+    }
+    panic!("{images} images, {append_crashes} crashes in an append");
 }
 
 /// Records of several runs, and some from before slip 8, behind one another.

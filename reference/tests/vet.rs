@@ -192,7 +192,16 @@ fn each_wrong_rule_is_caught() {
 fn the_right_rule_is_tried_often() {
     let path = PathBuf::from(env!("CARGO_BIN_EXE_reference"));
     let program = Program { path, args: vec!["replay".to_string()] };
-    let report = crash_bench_by(&program, free_words, 4_000, Duration::from_secs(3)).unwrap();
-    assert!(report.failure.is_none(), "{:?}", report.failure);
-    assert!(report.passed > 10 && report.passed_crashes > 5, "{report:?}");
+    // Three seconds do; on a busy machine other histories follow, for a minute at most.
+    let (mut passed, mut passed_crashes) = (0, 0);
+    for round in 0..20 {
+        let report = crash_bench_by(&program, free_words, 4_000 + 10_000 * round, Duration::from_secs(3)).unwrap();
+        assert!(report.failure.is_none(), "{:?}", report.failure);
+        passed += report.passed;
+        passed_crashes += report.passed_crashes;
+        if passed > 10 && passed_crashes > 5 {
+            return;
+        }
+    }
+    panic!("{passed} op buffers of another unit passed, {passed_crashes} crashes in them");
 }

@@ -1,10 +1,10 @@
-/* How much stack each call of include/drivelog.h needs: `stack MOST MOST_ON_WORDS MOST_ON_A_RECORD MOST_ON_THREE IMAGE` makes each of
- * them in a thread whose stack was painted before, and looks how far down the paint is gone. Those that read bytes go over the image in
- * that file, the others over a log of their own.
+/* How much stack each call of include/drivelog.h needs: `stack MOST MOST_ON_WORDS MOST_ON_A_RECORD MOST_ON_THREE MOST_ON_CRASHES IMAGE`
+ * makes each of them in a thread whose stack was painted before, and looks how far down the paint is gone. Those that read bytes go over
+ * the image in that file, the others over a log of their own.
  *
  * Standard output: a line a call, its name and the bytes. Status 1 if one that reads bytes needs more than MOST, one of reserve, copy,
- * complete, release and vet more than MOST_ON_A_RECORD, the recovery of three more than MOST_ON_THREE, or another one that works on words
- * more than MOST_ON_WORDS, 2 if it could not be tried. */
+ * complete, release and vet more than MOST_ON_A_RECORD, the recovery of three more than MOST_ON_THREE, one of the two of crashes more than
+ * MOST_ON_CRASHES, or another one that works on words more than MOST_ON_WORDS, 2 if it could not be tried. */
 
 #define _DEFAULT_SOURCE
 #include "drivelog.h"
@@ -63,6 +63,16 @@ static int64_t recover_three(void)
     return drivelog_recover_three(state, DRIVELOG_STATE_WORDS, LOG, others[0], DRIVELOG_MAX_IMAGE / 8, others[1], DRIVELOG_MAX_IMAGE / 8, 7,
                                   three_ops[0], DRIVELOG_THREE_OPS_WORDS, three_ops[1], DRIVELOG_THREE_OPS_WORDS, three_ops[2],
                                   DRIVELOG_THREE_OPS_WORDS, three_reply, DRIVELOG_THREE_REPLY_WORDS);
+}
+
+/* The crashes over ops that store to words once and again and flush some: how many, and the last of them. */
+static const uint64_t crash_ops[] = {1, 100, 5, 1, 100, 6, 1, 200, 7, 2, 100, 1, 1, 300, 8, 2, 0, DRIVELOG_MAX_IMAGE / 8};
+#define CRASHES LOG, crash_ops, sizeof crash_ops / sizeof crash_ops[0]
+static int64_t crash_count(void) { return drivelog_crash_count(CRASHES, REPLY); }
+static int64_t crash_image(void)
+{
+    int64_t crashes = crash_count();
+    return drivelog_crash_image(CRASHES, crashes > 0 ? (uint64_t)crashes - 1 : 0, others[0], DRIVELOG_MAX_IMAGE / 8, REPLY);
 }
 
 struct call {
@@ -129,9 +139,10 @@ int main(int argc, char **argv)
                               {"force", force, 0}, {"recover", recover, 0}, {"open", open, 0}, {"next", next, 0}, {"fetch", fetch, 0},
                               {"vet", vet, 0}, {"release", release, 0}, {"append", append, 0}, {"release_all", release_all, 0}};
     struct call on_three[] = {{"recover_three", recover_three, 0}};
-    FILE *file = argc == 6 ? fopen(argv[5], "rb") : NULL;
+    struct call on_crashes[] = {{"crash_count", crash_count, 0}, {"crash_image", crash_image, 0}};
+    FILE *file = argc == 7 ? fopen(argv[6], "rb") : NULL;
     if (file == NULL) {
-        fputs("usage: stack MOST MOST_ON_WORDS MOST_ON_A_RECORD MOST_ON_THREE IMAGE\n", stderr);
+        fputs("usage: stack MOST MOST_ON_WORDS MOST_ON_A_RECORD MOST_ON_THREE MOST_ON_CRASHES IMAGE\n", stderr);
         return 2;
     }
     bytes = fread(image, 1, sizeof image, file);
@@ -142,5 +153,6 @@ int main(int argc, char **argv)
     memcpy(others[0], log_words, sizeof others[0]);
     memcpy(others[1], log_words, sizeof others[1]);
     others[0][1] = others[1][2] = 1;
-    return tried(on_three, 1, strtoul(argv[4], NULL, 10), most_on_a_record, status);
+    status = tried(on_three, 1, strtoul(argv[4], NULL, 10), most_on_a_record, status);
+    return tried(on_crashes, 2, strtoul(argv[5], NULL, 10), most_on_a_record, status);
 }

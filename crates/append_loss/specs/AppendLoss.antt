@@ -89,8 +89,8 @@ AppendLossBound =
     → DisciplinedAppends F es (formatted old words)
     → LosesAtMost F (after_appends es (formatted old words)) (since_appends es (formatted old words) [])
 
--- "It holds over restarts": whatever came before a recovery that succeeded uncut, disciplined or not and with whatever
--- frequency, the F of the discipline since then bounds
+-- "It holds over restarts": whatever came before a recovery that succeeded, all its ops carried out, disciplined or not
+-- and with whatever frequency, the F of the discipline since then bounds
 unfoldable pub AppendLossBoundSince : Type 0
 AppendLossBoundSince =
     (old : List ℕ) (words : ℕ) → (format_effect no_state old words).reply ≡ ok done

@@ -39,6 +39,7 @@ use Rattle.append.specs.AppendSafe.{feed_recorded}
 use Rattle.replicas.specs.RecoverThree.{Slot, slot0, slot1, slot2, each, reads_to_end, beats, chosen_slot, chosen_image, repair_ops, repair_of, ops_for, three_effect}
 use Rattle.replicas.specs.ThreeSafe.{Drive, Fate, module_after, feed_three, replicas_of, formatted_drive, DriveRecovers}
 use Rattle.replicas.proofs.MayBefall.{can_befall, can_befall_lem}
+use Rattle.replicas.proofs.Slots.{by_slot}
 use Rattle.append_three.specs.AppendThree.{AppendDriveEvent, drive_append, append_on, append_part, feed_appended_three, feed_append_three, append_drive_after, AppendDriveAllFit, append_drive_after_all, AppendThreeSafe}
 use Rattle.append_three.proofs.AppendThreeTheorem.{append_three_safe}
 
@@ -80,31 +81,6 @@ e2 = drive_append 18 (3 ∷ []) 3 99 next_fates true
 pub ended : Drive
 ended = append_drive_after e2 forced
 
--- ---------------------------------------------------------------- it is possible
-pub all_can : (i : Slot)
-    → (can_befall (append_part start 17 (1 ∷ 2 ∷ []) 1 99 first_fates false i) (first_fates i) (start.modules i) ≡ true)
-    × (can_befall (append_part forced 18 (3 ∷ []) 3 99 next_fates true i) (next_fates i) (forced.modules i) ≡ true)
-unfolding le_bytes word_bytes crc_bit crc_bits crc_byte crc_over crc32 size_of word0 mark_of kind_of length_of
-    record_check word2
-    check_of epoch_of ring_word read_at ring_bytes payload_of copy_start copy_body copy_check copy_words selector
-    active_word
-    number word_at words_at splice carry_op carry apply follow_ok free_from is_sound entry_in_table with_entry size_from
-    used found_at
-    damage_tests step_tests_within behind step_within next_within superline_bad head_cursor opening scan_from_within
-    scan_within
-    listed feed_granted feed reserve_state complete_state mark_store mark_stores mark_flushes force_ops commit_from
-    force_state
-    first_open has_multiple is_deferred format_ops fresh_state format_effect recover_ops_of recover_ops stores
-    flush_ring
-    superline_ops whole_record record_ops recorded_state append_deferred append_due append_effect feed_recorded
-    reads_to_end beats
-    chosen_slot repair_ops repair_of ops_for three_effect module_after feed_three formatted_drive is_in may_hold is_left
-    can_befall
-    feed_appended_three feed_append_three append_drive_after start first_ops forced next_ops ended
-all_can slot0 = (refl, refl)
-all_can slot1 = (refl, refl)
-all_can slot2 = (refl, refl)
-
 two_bytes : AllBytes (1 ∷ 2 ∷ [])
 two_bytes zero = lit< tt
 two_bytes (suc zero) = lit< tt
@@ -114,14 +90,8 @@ one_byte : AllBytes (3 ∷ [])
 one_byte zero = lit< tt
 one_byte (suc i) = lit< tt
 
-pub possible : AppendDriveAllFit (e1 ∷ e2 ∷ []) start
-unfolding AppendDriveAllFit start forced append_drive_after formatted_drive
-possible = (
-  (two_bytes, refl, λ i. can_befall_lem _ _ _ (all_can i).0),
-  ((one_byte, refl, λ i. can_befall_lem _ _ _ (all_can i).1), tt),
-)
-
--- ---------------------------------------------------------------- what it leaves
+-- ---------------------------------------------------------------- what it leaves, and that it is possible, by
+-- evaluation
 abbrev present : Slot → Bool
 present = each false true true
 
@@ -133,6 +103,11 @@ promised kind bytes durable =
     record { kind = kind; bytes = bytes; complete = true; durable = durable; begun = false }
 
 pub record Seen : Type 0 where
+  -- each append is one that can befall each module
+  pub can : (i : Slot)
+      → (can_befall (append_part start 17 (1 ∷ 2 ∷ []) 1 99 first_fates false i) (first_fates i) (start.modules i)
+      ≡ true)
+      × (can_befall (append_part forced 18 (3 ∷ []) 3 99 next_fates true i) (next_fates i) (forced.modules i) ≡ true)
   -- the first is durable, the next deferred
   pub durable : (append_on start 17 (1 ∷ 2 ∷ []) 1 99).reply ≡ ok (appended 1 1)
   pub deferred : (append_on forced 18 (3 ∷ []) 3 99).reply ≡ ok (appended 2 0)
@@ -149,23 +124,17 @@ pub record Seen : Type 0 where
 
 pub seen : Seen
 unfolding le_bytes word_bytes crc_bit crc_bits crc_byte crc_over crc32 size_of word0 mark_of kind_of length_of
-    record_check word2
-    check_of epoch_of ring_word read_at ring_bytes payload_of copy_start copy_body copy_check copy_words selector
-    active_word
-    number word_at words_at splice carry_op carry apply follow_ok free_from is_sound entry_in_table with_entry size_from
-    used found_at
-    damage_tests step_tests_within behind step_within next_within superline_bad head_cursor opening scan_from_within
-    scan_within
-    listed feed_granted feed reserve_state complete_state mark_store mark_stores mark_flushes force_ops commit_from
-    force_state
-    first_open has_multiple is_deferred format_ops fresh_state format_effect recover_ops_of recover_ops stores
-    flush_ring
-    superline_ops whole_record record_ops recorded_state append_deferred append_due append_effect feed_recorded
-    reads_to_end beats
-    chosen_slot repair_ops repair_of ops_for three_effect module_after feed_three formatted_drive is_in may_hold is_left
-    can_befall
+    record_check word2 check_of epoch_of ring_word read_at ring_bytes payload_of copy_start copy_body copy_check
+    copy_words selector active_word number word_at words_at splice carry_op carry apply follow_ok free_from is_sound
+    entry_in_table with_entry size_from used found_at damage_tests step_tests_within behind step_within next_within
+    superline_bad head_cursor opening scan_from_within scan_within listed feed_granted feed reserve_state complete_state
+    mark_store mark_stores mark_flushes force_ops commit_from force_state first_open has_multiple is_deferred format_ops
+    fresh_state format_effect recover_ops_of recover_ops stores flush_ring superline_ops whole_record record_ops
+    recorded_state append_deferred append_due append_effect feed_recorded reads_to_end beats chosen_slot repair_ops
+    repair_of ops_for three_effect module_after feed_three formatted_drive is_in may_hold is_left can_befall
     feed_appended_three feed_append_three append_drive_after start first_ops forced next_ops ended
 seen = record {
+  can = by_slot _ (refl, refl) (refl, refl) (refl, refl);
   durable = refl;
   deferred = refl;
   counts = (refl, refl);
@@ -180,15 +149,20 @@ pub formats : (format_effect no_state (replicate 40 7) 33).reply ≡ ok done
 unfolding format_ops fresh_state format_effect stores superline_ops copy_start copy_body copy_check copy_words
 formats = refl
 
+pub possible : AppendDriveAllFit (e1 ∷ e2 ∷ []) start
+unfolding AppendDriveAllFit start forced append_drive_after formatted_drive
+possible = (
+  (two_bytes, refl, λ i. can_befall_lem _ _ _ (seen.can i).0),
+  ((one_byte, refl, λ i. can_befall_lem _ _ _ (seen.can i).1), tt),
+)
+
 -- the theorem speaks of it, so record 1 stays listed
 pub owed : DriveRecovers ended
 unfolding AppendThreeSafe start forced ended append_drive_after_all append_drive_after formatted_drive
 owed = append_three_safe (replicate 40 7) olds 33 formats same (e1 ∷ e2 ∷ []) possible refl
   where
     same : (i : Slot) → length (olds i) ≡ 40
-    same slot0 = refl
-    same slot1 = refl
-    same slot2 = refl
+    same = by_slot _ refl refl refl
 
 pub stays : Listed 1 (chosen_image (replicas_of ended present (λ i. 200)))
 stays = (owed present (λ i. 200) seen.granted).listed 1 (promised 17 (1 ∷ 2 ∷ []) true) seen.promises.0 refl

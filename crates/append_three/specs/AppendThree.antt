@@ -1,5 +1,5 @@
 -- Slip 9's promise with append among the calls: the events of ThreeSafe, and append on three modules, with modules
--- absent, orders missed and power failures.
+-- absent, ops missed and power failures.
 use Rattle.std.specs.Prelude.{◌≡◌, List, [], ◌∷◌, Bool, false, ℕ, length}
 use Rattle.crc_spec.specs.Bytes.{AllBytes}
 use Rattle.device.specs.Ops.{Op, apply}

@@ -38,7 +38,7 @@ unfoldable pub LoadsSaved : Type 0
 LoadsSaved = (s : State) → LeftByCalls s → state_of (words_of s) ≡ s
 
 -- working image, module, the words of the state, and abstract log; down: power failed, and no recovery has succeeded
--- uncut since
+-- since, all its ops carried out
 pub record SystemInC : Type 0 where
   pub image : List ℕ
   pub device : Device

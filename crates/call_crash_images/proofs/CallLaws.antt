@@ -3,7 +3,7 @@
 use mathlib.Core.Path.{◌≡◌, refl, sym, ◌∙◌}
 use mathlib.Core.Bool.{Bool, true, false, not, ◌||◌, false≢true}
 use mathlib.Core.List.{List, [], ◌∷◌}
-use mathlib.Core.Option.{Option, none, some}
+use mathlib.Core.Option.{none}
 use Prim.Native.Nat.{ℕ, ◌≤◌, ◌<◌}
 use native.Mathlib.Omega.{arith}
 use lib.ListN.{length}
@@ -11,18 +11,18 @@ use lib.Dec.{leb, ltb, eqb}
 use borrow.Author.Tests.{eqb-true, eq-eqb, ne_eqb, lt-ltb, le-ltb, le-leb, lt-leb}
 use Rattle.refusal.specs.Tests.{Reply, ok, refused, because, test, decide, verdict}
 use Rattle.refusal.specs.declared.Why.{Why}
-use Rattle.refusal.proofs.TestLaws.{AllPass, first_passes, rest_pass, row_fails, row_passes, refusal_decides}
+use Rattle.refusal.specs.declared.Verdict.TheVariants.{Pass}
+use Rattle.refusal.proofs.RowLaws.{none_failed}
+use Rattle.refusal.proofs.TestLaws.{AllPass, first_passes, rest_pass, row_fails, row_passes, refusal_decides, op_test_passes}
 use Rattle.scan.specs.Open.{image_size_ok, size_test}
+use Rattle.scan.proofs.OrLaws.{or_true}
 use Rattle.crash_images.specs.CrashImages.{max_crashes, total, count_reply, Crash, crash_number, crash_reply, left_by, point_reply, output_left, op_ok}
 use Rattle.device.specs.ReadOps.{ops_of, first_other}
 use Rattle.refusal.specs.Tests.{op_test}
 use Rattle.crash_images.specs.InnerSteps.{GoodOps}
 use Rattle.crash_images.proofs.BufferLaws.{good_ops}
-use Rattle.call_crash_images.specs.InnerPut.{lent_tests}
-
-or_true : (a : Bool) → (a || true) ≡ true
-or_true true = refl
-or_true false = refl
+use Rattle.call_crash_images.specs.InnerPut.{lent_tests, Tests}
+use Rattle.call_crash_images.specs.declared.Tested.{Tested}
 
 or_none : (a : Bool) → (a || false) ≡ a
 or_none true = refl
@@ -51,21 +51,22 @@ pub record Fine (n room : ℕ) (buffer : List ℕ) : Type 0 where
   pub same : room ≡ n
   pub ops : first_other (op_ok n) 0 buffer ≡ none
 
-no_bad : (o : Option ℕ) → (op_test o).fails ≡ false → o ≡ none
-no_bad none h = refl
-no_bad (some k) h = absurd (false≢true (sym h))
-
 pub fine : (n room : ℕ) (buffer : List ℕ) → AllPass (lent_tests n room buffer) → Fine n room buffer
 fine n room buffer p = record {
   size = (go (not (image_size_ok n)) (eqb room n) refl (first_passes p)).0;
   same = eqb-true room n (go (not (image_size_ok n)) (eqb room n) refl (first_passes p)).1;
-  ops = no_bad (first_other (op_ok n) 0 buffer) (first_passes (rest_pass p));
+  ops = op_test_passes (first_other (op_ok n) 0 buffer) (first_passes (rest_pass p));
 }
   where
     go : (a b : Bool) → eqb room n ≡ b → (a || not b) ≡ false → (a ≡ false) × (b ≡ true)
     go false true e h = (refl, refl)
     go false false e h = absurd (false≢true (sym h))
     go true b e h = absurd (false≢true (sym h))
+
+-- the words lent pass
+pub passed : (n room : ℕ) (ops : List ℕ) (r : Tested) → r.verdict ≡ Pass → Tests (lent_tests n room ops) (ops_of ops) r
+    → Fine n room ops
+passed n room ops r e t = fine n room ops (none_failed (lent_tests n room ops) e t.verdict)
 
 pub fine_ops : {n room : ℕ} {buffer : List ℕ} → Fine n room buffer → GoodOps n buffer
 fine_ops {n} {room} {buffer} f = good_ops n 0 buffer f.ops

@@ -19,6 +19,7 @@ use Rattle.scan.specs.declared.Cursor.{Cursor}
 use Rattle.scan.specs.declared.Found.{Found}
 use Rattle.scan.specs.Open.{size_test}
 use Rattle.scan.specs.Next.{Next, one, ended, found_at, damage_tests, step_tests_within, step_within, behind, cursor_ok_within, next_within}
+use Rattle.scan.proofs.FoundLaws.{positive}
 
 -- ---------------------------------------------------------------- the tests of a step, as words 0 to 2 and a check
 -- make them
@@ -93,9 +94,6 @@ module _ (limit c : ℕ) (u : Cursor) where
         go : AllPass (rows w0 w1 w2 x) → Refuses v w1 b y granted 6
         go (and h₁₃ (and h₁ (and h₂ (and h₃ (and h₄ (and h₅ q)))))) =
             rw (h₁₃, le-ltb 2 (mark_of v) m, ne_eqb (kind_of v) 0 z, len, h₃, h₄, h₅, ne_eqb (check_of b) y n)
-
-positive : (n : ℕ) → (n ≡ 0 → ⊥) → 1 ≤ n
-positive n h = omega arith
 
 -- ---------------------------------------------------------------- two images of one length
 module _ (limit : ℕ) (old new : List ℕ) (sized : length new ≡ length old) (u : Cursor) where

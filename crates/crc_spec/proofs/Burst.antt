@@ -6,7 +6,7 @@ use mathlib.Core.List.{List, [], ◌∷◌, ◌++◌}
 use Prim.Native.Nat.{ℕ, zero, suc, ◌+◌, ◌-◌, ◌*◌, ◌/◌, ◌%◌, ◌^◌, ◌≤◌, ◌<◌}
 use native.Mathlib.Omega.{arith}
 use native.Mathlib.Decide.{dec_le}
-use native.Mathlib.Nat.{mod-lt, zero-lt-suc, lt_of_le_of_lt, lt_of_lt_of_le, div-le_self, mod-le, mul-mod_left, mul_assoc, zero-mul, add-zero}
+use native.Mathlib.Nat.{mod-lt, zero-lt-suc, lt_of_le_of_lt, lt_of_lt_of_le, mod-le, mul-mod_left, mul_assoc, zero-mul, add-zero}
 use lib.Bits.{bit_xor, xor_zero_l, xor_zero_r, xor_self, xor_lt, xor_mod, xor_shr}
 use lib.Dec.{lit≤}
 use lib.Pow.{pow-add, split, shr-shr}
@@ -16,7 +16,7 @@ use Rattle.crc_spec.specs.Burst.{Within32, BitLinear, BitInjective, BurstDetecte
 use Rattle.crc_spec.specs.Crc.{crc_byte, crc_over, crc32}
 use Rattle.crc_spec.proofs.Xor.{digit_cases, xor_assoc, xor_cross}
 use Rattle.crc_spec.proofs.Linear.{bit_linear, linear}
-use Rattle.crc_spec.proofs.Laws.{crc_over_lt, over_append, le_bytes_bytes}
+use Rattle.crc_spec.proofs.Laws.{bit_lt, byte_lt, crc_over_lt, over_append, le_bytes_bytes}
 use Rattle.crc_spec.proofs.Register.{low_bytes, part_bits, moved_up, moved_out}
 
 -- two numbers whose exclusive or is 0 are one
@@ -43,14 +43,7 @@ xor_cancel : (a b x : ℕ) → bit_xor a x ≡ bit_xor b x → a ≡ b
 xor_cancel a b x e = xor_same a b (sym (xor_drop a b x) ∙ xor_zero_of (bit_xor a x) (bit_xor b x) e)
 
 -- ---------------------------------------------------------------- the register
--- a bit's step keeps the bound
-bit_lt : (r : ℕ) → r < 4294967296 → crc_bit r < 4294967296
-unfolding crc_bit
-bit_lt r h =
-    xor_lt 32 (r / 2) (r % 2 * poly) (lt_of_le_of_lt (div-le_self r 2) h)
-    (digit_cases (λ (x : ℕ). x * poly < 4294967296) (lit≤ tt) (lit≤ tt) (r % 2) (mod-lt r (zero-lt-suc 1)))
-
--- and leaves 0 only of 0: the polynomial has bit 31, and half of a register has not
+-- a bit's step leaves 0 only of 0: the polynomial has bit 31, and half of a register has not
 bit_zero : (x : ℕ) → x < 4294967296 → crc_bit x ≡ 0 → x ≡ 0
 unfolding crc_bit
 bit_zero x h e =
@@ -84,14 +77,6 @@ byte_injective r s b hr hs hb e =
     let small : b < 4294967296 = lt_of_lt_of_le hb (lit≤ tt) in
     xor_cancel r s b
     (bits_injective 8 (bit_xor r b) (bit_xor s b) (xor_lt 32 r b hr small) (xor_lt 32 s b hs small) e)
-
-byte_lt : (r b : ℕ) → r < 4294967296 → b < 256 → crc_byte r b < 4294967296
-unfolding crc_over
-byte_lt r b h hb = crc_over_lt r (b ∷ []) h all
-  where
-    all : AllBytes (b ∷ [])
-    all zero = hb
-    all (suc i) = zero-lt-suc 255
 
 pub over_injective : (r s : ℕ) (bs : List ℕ) → r < 4294967296 → s < 4294967296 → AllBytes bs
     → crc_over r bs ≡ crc_over s bs

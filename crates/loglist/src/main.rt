@@ -1,6 +1,7 @@
 // The program loglist: reads an image's bytes from standard input and prints the records that it lists. The contract of
 // `list_input` says what it writes, at any reader and writer whose bytes a contract can name: `bytes_text` of the first
-// 65,537 bytes that it reads. Of standard input and output no contract can say what they give and take.
+// 65,537 bytes that it reads. Where reader or writer fails it ends with their error, and no contract says what was written
+// until then. Of standard input and output no contract can say what they give and take.
 #![tactic(auto)]
 
 ghost use Rattle.std.specs.Prelude.{◌≡◌, ◌≤◌, OnOk, IfSome, take, length};

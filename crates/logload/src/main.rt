@@ -1,8 +1,8 @@
 // The program logload: reads what loglist prints from standard input, and writes the bytes of an image of 8,192 words
 // that lists the same, or a refusal. The contract of `load_input` says what it writes, at any reader and writer whose
 // bytes a contract can name: `loaded_bytes` of the first 262,145 bytes that it reads, which are the bytes of the image
-// that `load` makes, or the line of its refusal. Of standard input and output no contract can say what they give and
-// take.
+// that `load` makes, or the line of its refusal. Where reader or writer fails it ends with their error, and no contract
+// says what was written until then. Of standard input and output no contract can say what they give and take.
 #![tactic(auto)]
 
 ghost use Rattle.std.specs.Prelude.{◌≡◌, OnOk, IfSome, take, length};

@@ -1,7 +1,8 @@
 // The program logorphans: reads an image's bytes from standard input and prints the LSNs of the listed records that name
 // an inspection which no earlier listed record is. The contract of `list_input` says what it writes, at any reader and
-// writer whose bytes a contract can name: `orphans_text` of the first 65,537 bytes that it reads. Of standard input and
-// output no contract can say what they give and take.
+// writer whose bytes a contract can name: `orphans_text` of the first 65,537 bytes that it reads. Where reader or
+// writer fails it ends with their error, and no contract says what was written until then. Of standard input and output no
+// contract can say what they give and take.
 #![tactic(auto)]
 
 ghost use Rattle.std.specs.Prelude.{◌≡◌, ◌≤◌, OnOk, IfSome, take, length};

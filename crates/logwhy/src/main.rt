@@ -1,7 +1,8 @@
 // The program logwhy: reads an image's bytes and after them an LSN, 8 bytes, from standard input, and prints why that
 // LSN is listed or not. The contract of `answer_input` says what it writes, at any reader and writer whose bytes a
-// contract can name: the line of the reason that the first 65,545 bytes it reads have. Of standard input and output no
-// contract can say what they give and take.
+// contract can name: the line of the reason that the first 65,545 bytes it reads have. Where reader or writer fails
+// it ends with their error, and no contract says what was written until then. Of standard input and output no contract can
+// say what they give and take.
 #![tactic(auto)]
 
 ghost use Rattle.std.specs.Prelude.{◌≡◌, OnOk, IfSome, take, length};

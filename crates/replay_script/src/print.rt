@@ -9,7 +9,7 @@ use state::{TABLE_SIZE, stage_number};
 use std::io;
 use words_state::{FIRST_ENTRY, STATE_WORDS, entry_from};
 
-// The word of an answer.
+// The word of an answer, as the line has it.
 #[derive(Clone, Copy)]
 pub enum AnswerWord {
     Ok,
@@ -75,7 +75,7 @@ fn put_damage(rt: &impl Print, out: &mut [u8; TEXT_SIZE], damage: u64) -> io::Re
     }
 }
 
-// The five numbers of entry `i` of the table: place, length, kind, stage, epoch.
+// The five numbers of entry `i` of the table: ring position, length, kind, stage, epoch.
 fn entry_numbers(state: &[u64; STATE_WORDS], i: usize) -> [u64; 5]
     requires { i < table_size }
 {

@@ -2,7 +2,7 @@
 -- Cites specs/VetExact.antt, and ReadOpsLaws.antt of device.
 use mathlib.Core.Path.{◌≡◌, refl, sym, ap, subst}
 use mathlib.Core.List.{List}
-use mathlib.Core.Bool.{Bool, true, false, cond, not, true≢false}
+use mathlib.Core.Bool.{Bool, true, false, cond, not}
 use mathlib.Core.Option.{Option, none, some}
 use Prim.Native.Nat.{ℕ}
 use native.Mathlib.Omega.{arith}
@@ -12,16 +12,12 @@ use Rattle.device.specs.ReadOps.{ops_of, first_other, OtherAt}
 use Rattle.device.proofs.ReadOpsLaws.{all_laid, none_other, lowest_other}
 use Rattle.refusal.specs.declared.Why.{Why}
 use Rattle.refusal.specs.Tests.{because, Reply, ok, refused, decide, op_test}
-use Rattle.refusal.proofs.TestLaws.{end, and, first_passes, rest_pass, all_granted, answered}
+use Rattle.refusal.proofs.TestLaws.{end, and, first_passes, rest_pass, all_granted, answered, op_test_passes}
 use Rattle.state.specs.Sound.{is_sound}
 use Rattle.journal.specs.Effect.{image_ok}
 use Rattle.scratch.specs.Vet.{is_free_word, passes, vet_tests, vet}
 use Rattle.scratch.specs.VetExact.{FreeWord, MayPass, PassedExactly, OtherExactly}
 use Rattle.scratch.proofs.FreeLaws.{is_free, free_is}
-
-test_passes : (o : Option ℕ) → (op_test o).fails ≡ false → o ≡ none
-test_passes none h = refl
-test_passes (some i) h = absurd (true≢false h)
 
 pub passed_exactly : PassedExactly
 unfolding PassedExactly vet
@@ -37,7 +33,7 @@ passed_exactly s image given = (to, from)
     to h =
         let ps = (answered (vet_tests s image given) granted (length (ops_of given)) h).0 in
         let g = all_laid (is_free_word s n) (FreeWord s n) (is_free s n) (free_is s n) n 0 given
-        (test_passes (first_other (passes s n) 0 given) (first_passes (rest_pass (rest_pass ps)))) in
+        (op_test_passes (first_other (passes s n) 0 given) (first_passes (rest_pass (rest_pass ps)))) in
         record {
           sized = not-false _ (first_passes ps);
           sound = not-false _ (first_passes (rest_pass ps));

@@ -1,21 +1,11 @@
 -- `call_crash_images::crash_count` meets its contract. Cites CallLaws.antt.
-use mathlib.Core.Path.{ap, ◌≡◌}
+use mathlib.Core.Path.{ap}
 use lib.ListN.{length}
 use Rattle.refusal.specs.Refusals.{verdict_reply}
-use Rattle.refusal.proofs.RowLaws.{none_failed, came_to}
-use Rattle.call_crash_images.specs.InnerPut.{lent_tests, Tests}
-use Rattle.call_crash_images.proofs.CallLaws.{Fine, fine, fine_ops, count_refused, count-over, count-granted}
-use mathlib.Core.List.{List}
-use Prim.Native.Nat.{ℕ}
-use Rattle.refusal.specs.declared.Verdict.TheVariants.{Pass}
-use Rattle.call_crash_images.specs.declared.Tested.{Tested}
-use Rattle.device.specs.ReadOps.{ops_of}
+use Rattle.refusal.proofs.RowLaws.{came_to}
+use Rattle.call_crash_images.specs.InnerPut.{lent_tests}
+use Rattle.call_crash_images.proofs.CallLaws.{passed, fine_ops, count_refused, count-over, count-granted}
 use Rattle.call_crash_images.proofs.crash_count.Goals as goal
-
--- the words lent pass
-passed : (n room : ℕ) (ops : List ℕ) (r : Tested) → r.verdict ≡ Pass → Tests (lent_tests n room ops) (ops_of ops) r
-    → Fine n room ops
-passed n room ops r e t = fine n room ops (none_failed (lent_tests n room ops) e t.verdict)
 
 pub returns-in-Fail : goal.returns-in-Fail
 returns-in-Fail c =

@@ -4,20 +4,11 @@ use Prim.Native.Nat.{◌≤◌, ℕ}
 use native.Mathlib.Omega.{arith}
 use lib.ListN.{length}
 use Rattle.refusal.specs.Refusals.{verdict_reply}
-use Rattle.refusal.proofs.RowLaws.{none_failed, came_to}
+use Rattle.refusal.proofs.RowLaws.{came_to}
 use Rattle.crash_images.specs.CrashImages.{max_crashes}
-use Rattle.device.specs.ReadOps.{ops_of}
-use Rattle.call_crash_images.specs.InnerPut.{lent_tests, Tests, Totals}
-use Rattle.call_crash_images.proofs.CallLaws.{Fine, fine, fine_ops, crash_refused, crash-over, crash-none, crash-granted, says_refused, says_granted}
-use mathlib.Core.List.{List}
-use Rattle.refusal.specs.declared.Verdict.TheVariants.{Pass}
-use Rattle.call_crash_images.specs.declared.Tested.{Tested}
+use Rattle.call_crash_images.specs.InnerPut.{lent_tests, Totals}
+use Rattle.call_crash_images.proofs.CallLaws.{passed, fine_ops, crash_refused, crash-over, crash-none, crash-granted, says_refused, says_granted}
 use Rattle.call_crash_images.proofs.crash_image.Goals as goal
-
--- the words lent pass
-passed : (n room : ℕ) (ops : List ℕ) (r : Tested) → r.verdict ≡ Pass → Tests (lent_tests n room ops) (ops_of ops) r
-    → Fine n room ops
-passed n room ops r e t = fine n room ops (none_failed (lent_tests n room ops) e t.verdict)
 
 -- the total is what was summed
 summed : {r t : ℕ} → Totals r t → r ≤ max_crashes → (r ≡ t) × (t ≤ max_crashes)
