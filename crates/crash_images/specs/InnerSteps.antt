@@ -7,10 +7,7 @@ use Rattle.std.specs.Prelude.{◌≡◌, List, [], ◌∷◌, ◌++◌, Bool, fa
 use Rattle.device.specs.Ops.{Op, store, flush}
 use Rattle.device.specs.Crash.{within}
 use Rattle.device.specs.ReadOps.{ops_of}
-
-pub record Entry : Type 0 where
-  pub word : ℕ
-  pub value : ℕ
+use Rattle.crash_images.specs.declared.Entry.{Entry}
 
 abbrev pub entry : ℕ → ℕ → Entry
 entry w v = record { word = w; value = v }
@@ -78,11 +75,6 @@ words_by flushed t w zero m = []
 words_by flushed t w (suc count) m =
     get_or (flushed w ∷ values_of w t) (m % (1 + entries_of w t)) 0
     ∷ words_by flushed t (suc w) count (m / (1 + entries_of w t))
-
--- the first len entries of a table in two slices, the newest first
-unfoldable pub entries_in : List ℕ → List ℕ → ℕ → List Entry
-entries_in words values zero = []
-entries_in words values (suc len) = entry (get_or words len 0) (get_or values len 0) ∷ entries_in words values len
 
 -- a store to a word of an image of n words, or a flush
 abbrev pub StoresIn : ℕ → Op → Type 0

@@ -11,3 +11,10 @@ pub enum CrashAnswer {
     Number(u64),
     Refused(Refusal),
 }
+
+// A value stored since the last flush of its word.
+#[derive(Clone, Copy, PartialEq, Eq)]
+pub struct Entry {
+    pub word: u64,
+    pub value: u64,
+}
