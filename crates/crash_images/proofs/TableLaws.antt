@@ -1,17 +1,16 @@
 -- A table in a slice, the oldest entry first: turns of the loops over it.
 use mathlib.Core.Path.{◌≡◌, refl, sym, ◌∙◌, ap}
 use mathlib.Core.List.{List, [], ◌∷◌, ◌++◌, append_assoc, reverse}
-use mathlib.Core.Bool.{Bool, true, false, cond, ◌&&◌, ◌||◌}
-use Prim.Native.Nat.{ℕ, zero, suc, ◌+◌, ◌*◌, ◌/◌, ◌%◌, ◌≤◌, ◌<◌}
+use mathlib.Core.Bool.{Bool, true, false, cond, ◌&&◌}
+use Prim.Native.Nat.{ℕ, suc, ◌+◌, ◌/◌, ◌%◌, ◌<◌}
 use native.Mathlib.Omega.{arith}
-use native.Mathlib.Numerals.{add-one}
 use lib.ListN.{length, get_or, set, length-append, get_or-append, get_or-eq_default, take}
 use lib.Seq.{get_or-append_seam, take-suc-set}
 use lib.Dec.{eqb, ltb}
 use borrow.Author.Tests.{eqb-true, eqb-false, ltb-true, ltb-false}
 use Rattle.std.proofs.lemmas.List.{take_more, take_more_set, reverse-append}
 use Rattle.crash_images.specs.declared.Entry.{Entry}
-use Rattle.crash_images.specs.InnerSteps.{entry, entries_of, values_of, in_table, without, table_count, words_by}
+use Rattle.crash_images.specs.InnerSteps.{entries_of, values_of, words_by}
 use Rattle.crash_images.proofs.StepLaws.{entries_values}
 
 -- the first entries, the newest first: one more of them, and one put after them

@@ -4,6 +4,7 @@
 -- value is not the table's last.
 -- Cites CrashImages.antt, and Crash.antt and Ops.antt of device.
 use Rattle.std.specs.Prelude.{◌≡◌, List, [], ◌∷◌, ◌++◌, Bool, false, cond, ◌&&◌, ◌||◌, ℕ, zero, suc, ◌+◌, ◌*◌, ◌/◌, ◌%◌, ◌<◌, length, get_or, eqb}
+use Rattle.std.specs.Coded.{Unit-prop, le_prop}
 use Rattle.device.specs.Ops.{Op, store, flush}
 use Rattle.device.specs.Crash.{within}
 use Rattle.device.specs.ReadOps.{ops_of}
@@ -80,6 +81,11 @@ words_by flushed t w (suc count) m =
 abbrev pub StoresIn : ℕ → Op → Type 0
 StoresIn n (store x v) = x < n
 StoresIn n (flush f c) = Unit {0}
+
+-- it holds in one way
+pub StoresIn-prop : (n : ℕ) (o : Op) → IsProp (StoresIn n o)
+StoresIn-prop n (store x v) = le_prop
+StoresIn-prop n (flush f c) = Unit-prop
 
 -- no op is bad: whole groups, and stores to words of the image
 pub record GoodOps (n : ℕ) (buffer : List ℕ) : Type 0 where

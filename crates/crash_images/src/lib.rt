@@ -3,16 +3,7 @@
 // are in crate call_crash_images.
 #![tactic(auto)]
 
-use refusal::Refusal;
-
-// What a call about crash images answers: a number, or why it declines.
-#[derive(Clone, Copy)]
-pub enum CrashAnswer {
-    Number(u64),
-    Refused(Refusal),
-}
-
-// A value stored since the last flush of its word.
+// A value stored since the last flush of its word, other than the flushed one.
 #[derive(Clone, Copy, PartialEq, Eq)]
 pub struct Entry {
     pub word: u64,

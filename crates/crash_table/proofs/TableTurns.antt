@@ -21,7 +21,7 @@ use Rattle.crash_images.proofs.TableLaws.{newest_turn, newest_put}
 use Rattle.crash_images.proofs.StepTotals.{count_kept}
 use Rattle.crash_table.specs.InnerTable.{more_images}
 
-eqb_swap : (a b : ℕ) → eqb a b ≡ eqb b a
+pub eqb_swap : (a b : ℕ) → eqb a b ≡ eqb b a
 eqb_swap a b = go (eqb b a) refl
   where
     go : (c : Bool) → eqb b a ≡ c → eqb a b ≡ c

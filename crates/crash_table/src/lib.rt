@@ -72,7 +72,7 @@ pub fn held_at(image: &[u64], ops: &[u64], k: usize, w: usize) -> Held
 }
 
 // How many of the entries are of word w.
-fn count_of(entries: &[Entry], w: u64) -> usize
+pub fn count_of(entries: &[Entry], w: u64) -> usize
     ensures { result ≡ count_by (λ e. eqb e.word w) entries.now }
 {
     entries.iter().filter(|entry| entry.word == w).count()
@@ -124,6 +124,13 @@ impl Table {
         ensures { result ≡ table_count self.now }
     {
         self.images
+    }
+
+    // How many entries it has.
+    pub fn len(&self) -> usize
+        ensures { result ≡ length self.now }
+    {
+        self.entries().len()
     }
 
     // The entries, the oldest first.
