@@ -1,7 +1,7 @@
-// The crashes over an op buffer counted, and the image that one of them leaves put into a lent slice. An image is put only
-// once it is known that there is one of its number: the image is copied, the words that ops store to get their flushed
-// values, and then those of the table their choices. The contracts cite specs/CrashImages.antt of crash_images; those of
-// inner functions its specs/InnerSteps.antt and specs/InnerPut.antt.
+// The crashes over an op buffer counted, and the image that one of them leaves put into a lent slice. An image is put
+// only once it is known that there is one of its number: the image is copied, the words that ops store to get their
+// flushed values, and then those of the table their choices. The contracts cite specs/CrashImages.antt of crash_images;
+// those of inner functions its specs/InnerSteps.antt and specs/InnerPut.antt.
 #![tactic(auto)]
 
 ghost use Rattle.std.specs.Prelude.{◌≡◌, [], ◌∷◌, ◌+◌, ◌*◌, ◌/◌, ◌≤◌, ◌<◌, length, get_or, reverse};
@@ -13,7 +13,9 @@ ghost use Rattle.crash_images.specs.Answered.{answered};
 ghost use Rattle.crash_images.specs.CrashImages.{op_ok, max_crashes, total, count_reply};
 ghost use Rattle.crash_images.specs.CrashImages.{image_left, crash_number, crash_reply, point_reply, output_left};
 ghost use Rattle.crash_images.specs.InnerSteps.{values_of, words_by, StoresIn-prop, GoodOps};
-ghost use Rattle.call_crash_images.specs.InnerPut.{lent_tests, IsFlush-prop, LastStore, Tests, NextStore, NextChange, Totals, Finds, FlushedOf, FlushedWords, NextWord, PutsChoice};
+ghost use Rattle.call_crash_images.specs.InnerPut.{lent_tests, IsFlush-prop, LastStore, Tests};
+ghost use Rattle.call_crash_images.specs.InnerPut.{NextStore, NextChange, Totals, Finds};
+ghost use Rattle.call_crash_images.specs.InnerPut.{FlushedOf, FlushedWords, NextWord, PutsChoice};
 
 use crash_images::Entry;
 use crash_table::{Table, count_of, held_at};
@@ -30,8 +32,8 @@ fn op_ok(n: u64, tag: u64, word: u64, argument: u64) -> bool
     word < n && ((tag == 1) | ((tag == 2) & ((1 <= argument) & (argument <= n - word))))
 }
 
-// Test 21: the lowest number of an op that is not one. Where it passes, how many ops there are up to the last store: the
-// others are flushes.
+// Test 21: the lowest number of an op that is not one. Where it passes, how many ops there are up to the last store:
+// the others are flushes.
 fn checked_ops(n: usize, ops: &[u64]) -> Result<usize, Refusal>
     ensures { Tests (op_test (first_other (op_ok n) 0 ops.now) ∷ []) (ops_of ops.now) result }
 {
@@ -84,7 +86,7 @@ fn next_word(entries: &[Entry], from: u64, n: u64) -> u64
 {
     let mut best = n;
     for entry in entries {
-        if from <= entry.word {
+        if entry.word >= from {
             best = best.min(entry.word);
         }
     }

@@ -1,14 +1,14 @@
 // The table by which crashes are counted: the values stored since the last flush of their word, without the flushed one
-// and without repeats. What is flushed is read from the op buffer. The contracts cite specs/InnerSteps.antt of crash_images
-// and specs/InnerTable.antt.
+// and without repeats. What is flushed is read from the op buffer. The contracts cite specs/InnerSteps.antt of
+// crash_images and specs/InnerTable.antt.
 #![tactic(auto)]
 
-ghost use Rattle.std.specs.Prelude.{◌≡◌, [], ◌∷◌, ℕ, cond, ◌||◌, ◌+◌, ◌*◌, ◌/◌, ◌≤◌, ◌<◌, ◌↔◌, eqb, length, reverse, count_by, IsTrue};
+ghost use Rattle.std.specs.Prelude.{◌≡◌, [], ◌∷◌, cond, ◌||◌, ◌+◌, ◌*◌, ◌/◌, ◌≤◌, ◌<◌, eqb, length, reverse, count_by};
 ghost use Rattle.device.specs.Crash.{within};
 ghost use Rattle.crash_images.specs.CrashImages.{max_crashes};
 ghost use Rattle.device.specs.ReadOps.{op_of, ops_of};
 ghost use Rattle.crash_images.specs.InnerSteps.{newest_step, flushed_step, newest_at, flushed_at, GoodOps};
-ghost use Rattle.crash_images.specs.InnerSteps.{entries_of, in_table, without, table_at, table_count};
+ghost use Rattle.crash_images.specs.InnerSteps.{in_table, without, table_at, table_count};
 ghost use Rattle.crash_table.specs.InnerTable.{table_room, more_images};
 
 use crash_images::Entry;
@@ -75,7 +75,13 @@ pub fn held_at(image: &[u64], ops: &[u64], k: usize, w: usize) -> Held
 pub fn count_of(entries: &[Entry], w: u64) -> usize
     ensures { result ≡ count_by (λ e. eqb e.word w) entries.now }
 {
-    entries.iter().filter(|entry| entry.word == w).count()
+    let mut count = 0;
+    for entry in entries {
+        if entry.word == w {
+            count += 1;
+        }
+    }
+    count
 }
 
 // How many images there are with one entry more of a word that has c of them.

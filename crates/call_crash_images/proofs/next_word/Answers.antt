@@ -4,7 +4,7 @@ use Rattle.crash_images.specs.InnerSteps.{entry}
 use Rattle.crash_images.proofs.TableLaws.{newest_turn}
 use Rattle.call_crash_images.proofs.PutLaws.{next_first, next_lower, next_other}
 use Rattle.call_crash_images.proofs.next_word.Goals as goal
-use Rattle.call_crash_images.proofs.next_word.Goals.{then-from-entry, else-from-entry}
+use Rattle.call_crash_images.proofs.next_word.Goals.{then-entry-from, else-entry-from}
 
 pub loop-entry-init : goal.loop-entry-init
 loop-entry-init c = next_first c.args.from c.args.n c.requires
@@ -16,8 +16,8 @@ loop-entry-preserved c =
     let e = get_or a.entries.now l.entry-index (entry 0 0) in
     let t = reverse (take l.entry-index a.entries.now) in
     rw (newest_turn a.entries.now l.entry-index (entry 0 0) c.loop-entry-test.true)
-    (elim c.if-from-entry.branch [
-      | then-from-entry w ↦
-          rw (w.best-is, w.min-best.ensures) (next_lower e t a.from a.n l.best l.invariant w.if-from-entry.true)
-      | else-from-entry w ↦ rw w.best-is (next_other e t a.from a.n l.best l.invariant w.if-from-entry.false)
+    (elim c.if-entry-from.branch [
+      | then-entry-from w ↦
+          rw (w.best-is, w.min-best.ensures) (next_lower e t a.from a.n l.best l.invariant w.if-entry-from.true)
+      | else-entry-from w ↦ rw w.best-is (next_other e t a.from a.n l.best l.invariant w.if-entry-from.false)
     ])
