@@ -74,7 +74,7 @@ fn write_answer<W: Write>(to: &mut W, answer: Answer, image: &[u64; 8192]) -> io
 {
     match answer {
         Answer::Done => write_image(to, image),
-        Answer::Refused(why) => write_refusal(to, why),
+        Err(why) => write_refusal(to, why),
     }
 }
 

@@ -64,7 +64,7 @@ fn read(c: Command, cursor: Cursor, image: &[u64], output: &mut [u8]) -> Told {
 // refused format or recover: these make a state anew, and where they are refused there is none.
 fn goes_on(number: u64, answer: Answer) -> bool {
     if (number == 10) | (number == 17) {
-        if let Answer::Refused(_) = answer {
+        if let Err(_) = answer {
             return false;
         }
     }

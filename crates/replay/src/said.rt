@@ -41,7 +41,7 @@ pub fn of_answer(answer: Answer, ops: u64) -> Said {
         Answer::Reserved(lsn, pos) => short(AnswerWord::Ok, 2, lsn, pos, ops),
         Answer::Durable => short(AnswerWord::Kept, 0, 0, 0, ops),
         Answer::Deferred => short(AnswerWord::PutOff, 0, 0, 0, ops),
-        Answer::Refused(why) => refused(why),
+        Err(why) => refused(why),
     }
 }
 
