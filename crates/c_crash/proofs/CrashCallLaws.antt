@@ -7,13 +7,12 @@ use native.Mathlib.Omega.{arith}
 use lib.IntN.{ℤ, pos}
 use lib.ListN.{length}
 use borrow.Author.Tests.{ltb-false, leb-false, lt-ltb, le-ltb}
+use Rattle.std.specs.Prelude.{Result, Ok, Err}
 use Rattle.refusal.specs.Refusals.{why_of}
 use Rattle.refusal.specs.Tests.{Reply, ok, refused, because}
 use Rattle.refusal.specs.declared.Refusal.{Refusal}
 use Rattle.refusal.proofs.TestLaws.{Decided, passed, failed, decided, first_passes, rest_pass}
 use Rattle.device.specs.Crash.{power_up}
-use Rattle.crash_images.specs.declared.CrashAnswer.{CrashAnswer}
-use Rattle.crash_images.specs.declared.CrashAnswer.TheVariants.{Number, Refused}
 use Rattle.crash_images.specs.Answered.{answered}
 use Rattle.crash_images.specs.CrashImages.{max_crashes, total, count_tests, count_reply, Crash, crash_number, crash_tests, crash_reply, point_reply, output_left}
 use Rattle.device.specs.ReadOps.{ops_of}
@@ -52,18 +51,18 @@ point_small image buffer i room =
     )
     go (failed w) = omega arith
 
-pub number_small : {a : CrashAnswer} {n : ℕ} → a ≡ Number n → number_in (answered a) ≤ max_crashes → n < 2 ^ 63
+pub number_small : {a : Result ℕ Refusal} {n : ℕ} → a ≡ Ok n → number_in (answered a) ≤ max_crashes → n < 2 ^ 63
 number_small e h = omega (arith, rw e at h)
 
 -- an answer reported
-pub report_number : (reply : List ℕ) {a : CrashAnswer} {n : ℕ} {r : ℤ} {reply' : List ℕ} → a ≡ Number n
+pub report_number : (reply : List ℕ) {a : Result ℕ Refusal} {n : ℕ} {r : ℤ} {reply' : List ℕ} → a ≡ Ok n
     → reply_size ≤ length reply → r ≡ pos n → reply' ≡ over (0 ∷ 0 ∷ 0 ∷ 0 ∷ []) reply
     → Reports (answered a) r reply reply'
 report_number reply {n = n} e h value tells =
     rw e (record { returned = value; told = tells ∙ told (λ (m : ℕ). 0) 0 (ok n) reply h })
 
-pub report_refused : (reply : List ℕ) (because-of : Refusal) {a : CrashAnswer} {r z : ℤ} {reply' : List ℕ}
-    → a ≡ Refused because-of → r ≡ z
+pub report_refused : (reply : List ℕ) (because-of : Refusal) {a : Result ℕ Refusal} {r z : ℤ} {reply' : List ℕ}
+    → a ≡ Err because-of → r ≡ z
     → Refuses (why_of because-of) z reply reply' → Reports (answered a) r reply reply'
 report_refused reply because-of e same tells = rw e (record { returned = same ∙ tells.returned; told = tells.told })
 

@@ -11,9 +11,8 @@ use lib.Dec.{leb, ltb, eqb}
 use borrow.Author.Tests.{eqb-true, eq-eqb, ne_eqb, lt-ltb, le-ltb, le-leb, lt-leb}
 use Rattle.refusal.specs.Tests.{Reply, ok, refused, because, test, decide, verdict}
 use Rattle.refusal.specs.declared.Why.{Why}
-use Rattle.refusal.specs.declared.Verdict.TheVariants.{Pass}
-use Rattle.refusal.proofs.RowLaws.{none_failed}
-use Rattle.refusal.proofs.TestLaws.{AllPass, first_passes, rest_pass, row_fails, row_passes, refusal_decides, op_test_passes}
+use Rattle.std.specs.Prelude.{Ok}
+use Rattle.refusal.proofs.TestLaws.{AllPass, answered, first_passes, rest_pass, row_fails, row_passes, refusal_decides, op_test_passes}
 use Rattle.scan.specs.Open.{image_size_ok, size_test}
 use Rattle.scan.proofs.OrLaws.{or_true}
 use Rattle.crash_images.specs.CrashImages.{max_crashes, total, count_reply, Crash, crash_number, crash_reply, left_by, point_reply, output_left, op_ok}
@@ -22,7 +21,6 @@ use Rattle.refusal.specs.Tests.{op_test}
 use Rattle.crash_images.specs.InnerSteps.{GoodOps}
 use Rattle.crash_images.proofs.BufferLaws.{good_ops}
 use Rattle.call_crash_images.specs.InnerPut.{lent_tests, Tests}
-use Rattle.call_crash_images.specs.declared.Tested.{Tested}
 
 or_none : (a : Bool) → (a || false) ≡ a
 or_none true = refl
@@ -64,9 +62,9 @@ fine n room buffer p = record {
     go true b e h = absurd (false≢true (sym h))
 
 -- the words lent pass
-pub passed : (n room : ℕ) (ops : List ℕ) (r : Tested) → r.verdict ≡ Pass → Tests (lent_tests n room ops) (ops_of ops) r
+pub passed : (n room : ℕ) (ops : List ℕ) {stores : ℕ} → Tests (lent_tests n room ops) (ops_of ops) (Ok stores)
     → Fine n room ops
-passed n room ops r e t = fine n room ops (none_failed (lent_tests n room ops) e t.verdict)
+passed n room ops t = fine n room ops (answered (lent_tests n room ops) (ok tt) tt (sym t.verdict)).0
 
 pub fine_ops : {n room : ℕ} {buffer : List ℕ} → Fine n room buffer → GoodOps n buffer
 fine_ops {n} {room} {buffer} f = good_ops n 0 buffer f.ops

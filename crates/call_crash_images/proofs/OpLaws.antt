@@ -11,11 +11,9 @@ use native.Mathlib.Numerals.{add-one}
 use lib.ListN.{length, get_or, drop}
 use lib.Seq.{drop-cons}
 use lib.Dec.{leb, eqb}
-use borrow.Author.Tests.{ne_eqb, eqb-false, lt-ltb, le-ltb, le-leb, lt-leb, leb-true, leb-false}
+use borrow.Author.Tests.{ne_eqb, lt-ltb, le-ltb, le-leb, lt-leb, leb-true, leb-false}
 use Rattle.crash_images.specs.CrashImages.{op_ok}
 use Rattle.device.specs.Ops.{Op}
-use Rattle.refusal.specs.Tests.{Reply, ok, refused}
-use Rattle.refusal.specs.declared.Why.{Why}
 use Rattle.device.specs.ReadOps.{ops_of, first_other}
 use Rattle.crash_images.specs.InnerSteps.{op_at}
 use Rattle.crash_images.proofs.BufferLaws.{ops_at, ops_long}
@@ -47,31 +45,21 @@ pub other_flush : (buffer : List ℕ) (j : ℕ) → j * 3 + 3 ≤ length buffer 
     → IsFlush (op_at (ops_of buffer) j)
 other_flush buffer j h tag = rw (ops_at buffer j (ops_long buffer j h), ne_eqb (get_or buffer (j * 3) 0) 1 tag) tt
 
--- a refusal does not pass
-pub not_passed : {w : Why} → ◌≡◌ {A = Reply (Unit {0})} (refused w) (ok tt) → ⊥
-not_passed e = let z : ◌≡◌ {A = ℕ} 0 1 = cc in omega arith
-
 -- the ops looked at: after so many of them no store
 abbrev pub FlushesTo : List Op → ℕ → ℕ → Type 0
 FlushesTo os stores k = (j : ℕ) → stores ≤ j → j < k → IsFlush (op_at os j)
 
-pub no_stores : (os : List Op) → FlushesTo os 0 0
-no_stores os j a b = absurd (omega arith)
+pub flushes_none : (os : List Op) (k : ℕ) → FlushesTo os k k
+flushes_none os k j a b = absurd (omega arith)
 
-pub stores_turn : (buffer : List ℕ) (stores k stores' : ℕ) → k * 3 + 3 ≤ length buffer
-    → FlushesTo (ops_of buffer) stores k → stores' ≡ cond (eqb (get_or buffer (k * 3) 0) 1) (k + 1) stores
-    → FlushesTo (ops_of buffer) stores' (k + 1)
-stores_turn buffer stores k stores' h f e = go (eqb (get_or buffer (k * 3) 0) 1) refl e
+pub flushes_more : (buffer : List ℕ) (stores k : ℕ) → k * 3 + 3 ≤ length buffer
+    → FlushesTo (ops_of buffer) stores k → (get_or buffer (k * 3) 0 ≡ 1 → ⊥)
+    → FlushesTo (ops_of buffer) stores (k + 1)
+flushes_more buffer stores k h f tag j a l = at (dec_lt j k)
   where
-    go : (b : Bool) → eqb (get_or buffer (k * 3) 0) 1 ≡ b → stores' ≡ cond b (k + 1) stores
-        → FlushesTo (ops_of buffer) stores' (k + 1)
-    go true p q j a l = absurd (omega arith)
-    go false p q j a l = at (dec_lt j k)
-      where
-        at : Dec (j < k) → IsFlush (op_at (ops_of buffer) j)
-        at (yes m) = f j (omega arith) m
-        at (no m) = let z : j ≡ k = omega arith in
-            rw z (other_flush buffer k h (eqb-false (get_or buffer (k * 3) 0) 1 p))
+    at : Dec (j < k) → IsFlush (op_at (ops_of buffer) j)
+    at (yes m) = f j a m
+    at (no m) = let z : j ≡ k = omega arith in rw z (other_flush buffer k h tag)
 
 module _ (n : ℕ) (buffer : List ℕ) (k : ℕ) where
   -- a whole group more
