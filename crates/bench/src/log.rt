@@ -2,7 +2,7 @@
 ghost use Rattle.std.specs.Prelude.{◌≤◌, length};
 
 use drivelog::{State, append, complete, copy, force, format, recover, release, reserve};
-use list_image::{Listed, list_image};
+use list_image::list_image;
 
 // One record more, reserved and filled.
 fn draft(s: State, image: &mut [u64], ops: &mut [u64], payload: &[u8]) -> State {
@@ -117,8 +117,8 @@ fn list(image: &[u64], text: &mut [u8]) -> usize
 {
     let listed = list_image(image, text);
     match listed {
-        Listed::Text(end) => end,
-        Listed::NoRoom => 0,
+        Some(end) => end,
+        None => 0,
     }
 }
 

@@ -4,7 +4,7 @@
 #![tactic(auto)]
 
 use drivelog::{Answer, State};
-use list_image::{Listed, list_image, listing_room};
+use list_image::{list_image, listing_room};
 use std::io;
 
 // The words of the module, the ops for which the op buffer has room, and its words.
@@ -104,8 +104,8 @@ fn next_run(rt: &impl Print, mut module: [u64; WORDS]) -> io::Result<()> {
     let mut text = listing_room();
     let listed = list_image(&image, &mut text);
     match listed {
-        Listed::Text(end) => rt.write_all(&text[..end]),
-        Listed::NoRoom => Ok(()),
+        Some(end) => rt.write_all(&text[..end]),
+        None => Ok(()),
     }
 }
 

@@ -30,10 +30,8 @@ pub fn put_byte(rt: &impl Print, out: &mut [u8; TEXT_SIZE], byte: u8) -> io::Res
 
 // Puts a text.
 pub fn put_text(rt: &impl Print, out: &mut [u8; TEXT_SIZE], text: &[u8]) -> io::Result<()> {
-    let mut i: usize = 0;
-    while i < text.len() {
-        put_byte(rt, out, text[i])?;
-        i += 1;
+    for byte in text {
+        put_byte(rt, out, *byte)?;
     }
     Ok(())
 }
@@ -48,48 +46,22 @@ pub fn put_number(
     let mut digits = [0u8; 20];
     let k = put_decimal(&mut digits, 0, n);
     put_byte(rt, out, before)?;
-    let mut i: usize = 0;
-    while i < 20 {
-        if i == k {
-            return Ok(());
-        }
-        put_byte(rt, out, digits[i])?;
-        i += 1;
+    put_text(rt, out, &digits[..k])
+}
+
+// Puts numbers, each after a blank.
+pub fn put_numbers(rt: &impl Print, out: &mut [u8; TEXT_SIZE], values: &[u64]) -> io::Result<()> {
+    for value in values {
+        put_number(rt, out, b' ', *value)?;
     }
     Ok(())
 }
 
-// Puts a number after a blank, or if it begins an op the letter for what that does.
-fn put_value(
-    rt: &impl Print,
-    out: &mut [u8; TEXT_SIZE],
-    value: u64,
-    begins_op: bool,
-) -> io::Result<()> {
-    if begins_op {
-        put_byte(rt, out, b' ')?;
-        put_byte(rt, out, if value == 1 { b's' } else { b'f' })?;
-        return Ok(());
-    }
-    put_number(rt, out, b' ', value)
-}
-
-// Puts numbers, the first `count` of them at most. They may be ops of three numbers each: a store with its word and
-// value, or a flush with its first word and count.
-pub fn put_numbers(
-    rt: &impl Print,
-    out: &mut [u8; TEXT_SIZE],
-    values: &[u64],
-    count: u64,
-    are_ops: bool,
-) -> io::Result<()> {
-    let mut i: usize = 0;
-    while i < values.len() {
-        if i as u64 == count {
-            return Ok(());
-        }
-        put_value(rt, out, values[i], are_ops & (i % 3 == 0))?;
-        i += 1;
+// Puts an op of three numbers: a store is the letter s with its word and value, a flush f with its first word and count.
+pub fn put_op(rt: &impl Print, out: &mut [u8; TEXT_SIZE], op: &[u64]) -> io::Result<()> {
+    if let Some((kind, numbers)) = op.split_first() {
+        put_text(rt, out, if *kind == 1 { b" s" } else { b" f" })?;
+        put_numbers(rt, out, numbers)?;
     }
     Ok(())
 }

@@ -3,8 +3,8 @@ ghost use Rattle.std.specs.Prelude.{◌<◌};
 ghost use Rattle.state.specs.Table.{table_size};
 
 use crate::input::Command;
-use crate::output::{TEXT_SIZE, end_line, put_byte, put_number, put_numbers, put_text};
-use crate::{digest, limited};
+use crate::output::{TEXT_SIZE, end_line, put_byte, put_number, put_numbers, put_op, put_text};
+use crate::{digest, front, limited};
 use state::{TABLE_SIZE, stage_number};
 use std::io;
 use words_state::{FIRST_ENTRY, STATE_WORDS, entry_from};
@@ -94,12 +94,9 @@ fn entry_numbers(state: &[u64; STATE_WORDS], i: usize) -> [u64; 5]
 // The digest of the state: of its eight numbers and those of each table entry.
 fn state_digest(state: &[u64; STATE_WORDS]) -> u64 {
     let words: &[u64] = state;
-    let mut h = digest::with_words(digest::START, &words[..FIRST_ENTRY]);
-    let mut i: usize = 0;
-    while i < TABLE_SIZE {
-        let entry = entry_numbers(state, i);
-        h = digest::with_words(h, &entry);
-        i += 1;
+    let mut h = digest::with_values(digest::START, &words[..FIRST_ENTRY]);
+    for i in 0..TABLE_SIZE {
+        h = digest::with_values(h, &entry_numbers(state, i));
     }
     h
 }
@@ -109,7 +106,10 @@ fn state_digest(state: &[u64; STATE_WORDS]) -> u64 {
 fn put_ops(rt: &impl Print, out: &mut [u8; TEXT_SIZE], ops: &[u64], count: u64) -> io::Result<()> {
     put_text(rt, out, b" orders")?;
     put_number(rt, out, b' ', count)?;
-    put_numbers(rt, out, ops, 3 * (count % 65536), true)
+    for op in front(ops, 3 * (count % 65536)).chunks(3) {
+        put_op(rt, out, op)?;
+    }
+    Ok(())
 }
 
 // Puts the numbers of a table entry unless it is free: its index, its three numbers, its stage's and its epoch.
@@ -124,7 +124,7 @@ fn put_entry(
     }
     put_byte(rt, out, b' ')?;
     put_number(rt, out, b'[', i as u64)?;
-    put_numbers(rt, out, &numbers, 5, false)?;
+    put_numbers(rt, out, &numbers)?;
     put_byte(rt, out, b']')
 }
 
@@ -135,11 +135,9 @@ fn print_state(
     state: &[u64; STATE_WORDS],
 ) -> io::Result<()> {
     put_text(rt, out, b"state")?;
-    put_numbers(rt, out, state, FIRST_ENTRY as u64, false)?;
-    let mut i: usize = 0;
-    while i < TABLE_SIZE {
+    put_numbers(rt, out, &state[..FIRST_ENTRY])?;
+    for i in 0..TABLE_SIZE {
         put_entry(rt, out, i, entry_numbers(state, i))?;
-        i += 1;
     }
     end_line(rt, out)
 }
@@ -154,7 +152,7 @@ fn print_words(
 ) -> io::Result<()> {
     let start = limited(first, image.len());
     put_text(rt, out, b"words")?;
-    put_numbers(rt, out, &image[start..], count, false)?;
+    put_numbers(rt, out, front(&image[start..], count))?;
     end_line(rt, out)
 }
 
@@ -169,7 +167,7 @@ fn put_answer(
     let numbers = said.numbers;
     put_call(rt, out, number)?;
     put_word(rt, out, word)?;
-    put_numbers(rt, out, &numbers, said.count, false)?;
+    put_numbers(rt, out, front(&numbers, said.count))?;
     put_damage(rt, out, said.damage)
 }
 
@@ -185,13 +183,13 @@ fn print_digests(
     output: &[u8],
 ) -> io::Result<()> {
     let digests = [
-        digest::with_words(digest::START, image),
-        digest::with_words(digest::START, ops),
+        digest::with_values(digest::START, image),
+        digest::with_values(digest::START, ops),
         state_digest(state),
-        digest::of_bytes(output),
+        digest::with_values(digest::START, output),
     ];
     put_text(rt, out, b" =")?;
-    put_numbers(rt, out, &digests, count, false)?;
+    put_numbers(rt, out, front(&digests, count))?;
     end_line(rt, out)
 }
 
