@@ -203,7 +203,8 @@ choice_is {B} flushed w (suc d) xs r read h e =
     (unwrap_or-slice_get (map (λ (x : Entry). x.value) (filter (λ e. eqb e.word w) xs)) d 0)
   where
     value : (r : Option B)
-        → option_map_or (λ b. (read b).value) r 0 ≡ unwrap_or (option_map (λ (x : Entry). x.value) (option_map read r)) 0
+        → option_map_or (λ b. (read b).value) r 0
+        ≡ unwrap_or (option_map (λ (x : Entry). x.value) (option_map read r)) 0
     value None = refl
     value (Some b) = refl
 
