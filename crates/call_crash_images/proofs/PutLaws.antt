@@ -23,7 +23,6 @@ use Rattle.crash_images.specs.CrashImages.{Crash, crash_number, image_left}
 use Rattle.device.specs.ReadOps.{ops_of}
 use Rattle.crash_images.specs.declared.Entry.{Entry}
 use Rattle.crash_images.specs.InnerSteps.{op_at, newest_step, newest_at, flushed_step, flushed_at, entries_of, values_of, table_at, words_by, GoodOps}
-use Rattle.crash_images.proofs.StepLaws.{entries_values}
 use Rattle.crash_images.proofs.StepTotals.{crash_by_steps, left_by_steps}
 use Rattle.crash_images.proofs.BufferLaws.{ops_at, ops_long}
 use Rattle.crash_images.proofs.TableLaws.{fill_turn}
@@ -204,7 +203,8 @@ choice_is {B} flushed w (suc d) xs r read h e =
     (unwrap_or-slice_get (map (λ (x : Entry). x.value) (filter (λ e. eqb e.word w) xs)) d 0)
   where
     value : (r : Option B)
-        → option_map_or (λ b. (read b).value) r 0 ≡ unwrap_or (option_map (λ (x : Entry). x.value) (option_map read r)) 0
+        → option_map_or (λ b. (read b).value) r 0
+        ≡ unwrap_or (option_map (λ (x : Entry). x.value) (option_map read r)) 0
     value None = refl
     value (Some b) = refl
 
@@ -230,13 +230,6 @@ filled_first t old m = record { size = refl; same = λ x h. refl; end = rw all }
   where
     all : length old - 0 ≡ length old
     all = omega arith
-
-no_values : (w : ℕ) (t : List Entry) → entries_of w t ≡ 0 → values_of w t ≡ []
-no_values w t e = go (values_of w t) (entries_values w t ∙ e)
-  where
-    go : (l : List ℕ) → length l ≡ 0 → l ≡ []
-    go [] h = refl
-    go (x ∷ l) h = absurd (omega arith)
 
 -- a word without entries is left as it is
 module _ (t : List Entry) (old : List ℕ) (m rest : ℕ) (output : List ℕ) where

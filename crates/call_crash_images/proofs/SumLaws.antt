@@ -16,10 +16,9 @@ use Rattle.crash_images.specs.CrashImages.{total, max_crashes}
 use Rattle.device.specs.ReadOps.{ops_of}
 use Rattle.crash_images.specs.declared.Entry.{Entry}
 use Rattle.crash_images.specs.InnerSteps.{op_at, flushed_at, without, table_step, table_at, table_count, crashes_before, GoodOps}
-use Rattle.crash_images.proofs.BufferLaws.{ops_long}
 use Rattle.crash_images.proofs.StepTotals.{total_by_steps, table_fits, count_step}
 use Rattle.crash_table.specs.InnerTable.{table_room}
-use Rattle.call_crash_images.specs.InnerPut.{IsFlush, LastStore, NextStore, NextChange, Totals, Finds}
+use Rattle.call_crash_images.specs.InnerPut.{IsFlush, NextStore, NextChange, Totals, Finds}
 
 before_rises : (image : List ℕ) (os : List Op) (k d : ℕ) → crashes_before image os k ≤ crashes_before image os (d + k)
 unfolding crashes_before
@@ -32,10 +31,7 @@ before_rises image os k (suc d) = rw (more d k) (omega (arith, before_rises imag
     more : (x y : ℕ) → suc x + y ≡ suc (x + y)
     more x y = omega arith
 
--- the search for a store: it begins, and goes on past a flush
-pub store_first : (os : List Op) (k end : ℕ) → k ≤ end → NextStore os k end k
-store_first os k end h = record { above = omega arith; below = h; flushes = λ j a b. absurd (omega arith) }
-
+-- the search for a store goes on past a flush
 pub store_turn : (os : List Op) (k end j : ℕ) → NextStore os k end j → j < end → IsFlush (op_at os j)
     → NextStore os k end (j + 1)
 store_turn os k end j n h f = record {
@@ -47,20 +43,6 @@ store_turn os k end j n h f = record {
     go : (i : ℕ) → k ≤ i → i < j + 1 → Dec (i < j) → IsFlush (op_at os i)
     go i a b (yes l) = n.flushes i a l
     go i a b (no l) = let e : i ≡ j = omega arith in rw e f
-
--- it ends at the last store, or where it has to
-pub store_ends : (buffer : List ℕ) (stores k end j to : ℕ) → LastStore (ops_of buffer) stores → end * 3 ≤ length buffer
-    → k ≤ end → (to < end → to ≡ stores) → to ≤ j → NextStore (ops_of buffer) k end j
-    → NextStore (ops_of buffer) k end end
-store_ends buffer stores k end j to s h l e m n = record {
-  above = l;
-  below = omega arith;
-  flushes = λ i a b. go i a b (dec_lt i j);
-}
-  where
-    go : (i : ℕ) → k ≤ i → i < end → Dec (i < j) → IsFlush (op_at (ops_of buffer) i)
-    go i a b (yes p) = n.flushes i a p
-    go i a b (no p) = s.flushes i (omega (arith, e (omega arith))) (ops_long buffer i (omega arith))
 
 -- a flush leaves an empty table empty
 flush_empty : (o : Op) (flushed : ℕ → ℕ) (t : List Entry) → IsFlush o → t ≡ [] → table_step o flushed t ≡ []

@@ -23,7 +23,8 @@ loop-k-preserved c =
     let l = c.loop-k in
     let ops = c.args.ops.now in
     let whole : l.k * 3 + 3 ≤ length ops = omega arith in
-    let rest = other_later (op_ok c.args.n) ops l.k whole (sym c.op_ok.ensures ∙ c.if-not-op_ok.false) ∙ l.invariant.0 in
+    let rest =
+    other_later (op_ok c.args.n) ops l.k whole (sym c.op_ok.ensures ∙ c.if-not-op_ok.false) ∙ l.invariant.0 in
     elim c.if-ops-at-eq1.branch [
       | then-ops-at-eq1 w ↦ (rest, rw w.stores-is (flushes_none (ops_of ops) (l.k + 1)))
       | else-ops-at-eq1 w ↦

@@ -15,6 +15,7 @@ returns c =
     let a = c.args in
     let value : c.map_or.result ≡ option_map_or (λ e. e.now.value) c.nth.result 0 = search (rules, tests) in
     value ∙ choice_is a.flushed a.w a.d a.entries.now c.nth.result (λ e. e.now) c.if-d-eq0.false
-    (nth_from_yields_List {all = filter (λ e. eqb e.word a.w) a.entries.now} c.nth.result c.nth.new.self (a.d - 1) c.nth.ensures.ran
+    (nth_from_yields_List {all = filter (λ e. eqb e.word a.w) a.entries.now} c.nth.result c.nth.new.self (a.d - 1)
+    c.nth.ensures.ran
     (YieldsList-from_filter _ (λ e. eqb e.word a.w) (YieldsList-from_slice a.entries.now cc)
     c.filter-stored.ensures.closure (λ x r q k. search (rules, tests))))
