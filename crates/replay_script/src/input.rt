@@ -11,7 +11,7 @@ pub const MAX_OPS: usize = 26000;
 
 pub const MAX_BYTES: usize = 2048;
 
-// A command's number, 0 at the end of the script, and its arguments; those that it does not have are 0.
+// A command's number and its arguments; those that it does not have are 0.
 #[derive(Clone, Copy)]
 pub struct Command {
     pub number: u64,
@@ -22,17 +22,6 @@ pub struct Command {
     pub fifth: u64,
     pub sixth: u64,
 }
-
-// What stands for the end of the script.
-const END: Command = Command {
-    number: 0,
-    first: 0,
-    second: 0,
-    third: 0,
-    fourth: 0,
-    fifth: 0,
-    sixth: 0,
-};
 
 // Reads a word, if it is there.
 fn read_word(from: &mut impl Read) -> io::Result<Option<u64>> {
@@ -70,7 +59,7 @@ fn read_bytes(from: &mut impl Read, bytes: &mut [u8], count: u64) -> io::Result<
 // How many arguments a command has, if there is such a command.
 fn argument_count(number: u64) -> Option<usize> {
     match number {
-        0 | 10 | 16 | 17 | 20 | 21 | 31 => Some(0),
+        10 | 16 | 17 | 20 | 21 | 31 => Some(0),
         13 | 15 => Some(1),
         1 | 2 | 3 | 4 | 11 | 14 | 30 => Some(2),
         12 | 18 | 22 => Some(3),
@@ -95,9 +84,9 @@ fn bad(rt: &impl Print, number: u64) -> io::Result<Option<Command>> {
     Ok(None)
 }
 
-// Reads the next command, and the bytes after a copy or an append. There is none at the end of the input, also one that
-// cuts a command off.
-fn read_whole(
+// Reads the next command, and the bytes after a copy or an append. There is none after the 0 that ends the script, and at
+// the end of the input, also one that cuts a command off.
+pub fn read_command(
     rt: &impl Print,
     from: &mut impl Read,
     bytes: &mut [u8],
@@ -105,6 +94,9 @@ fn read_whole(
     let Some(number) = read_word(from)? else {
         return Ok(None);
     };
+    if number == 0 {
+        return Ok(None);
+    }
     let Some(count) = argument_count(number) else {
         return bad(rt, number);
     };
@@ -127,13 +119,4 @@ fn read_whole(
         fifth,
         sixth,
     }))
-}
-
-// Reads the next command, and the bytes after a copy or an append.
-pub fn read_command(
-    rt: &impl Print,
-    from: &mut impl Read,
-    bytes: &mut [u8],
-) -> io::Result<Command> {
-    Ok(read_whole(rt, from, bytes)?.unwrap_or(END))
 }
