@@ -78,8 +78,8 @@ fn carry_out(
 }
 
 // Carries out the commands of the script, from an image and an op buffer of no words and a state and a cursor all
-// zero. A proved loop has to end, and nothing says that the input does, so it counts its turns down from a number that
-// no run uses up.
+// zero. A proved loop has to end, and nothing says that the input does, so it goes through more turns than any run uses
+// up.
 fn run(
     rt: &impl Print,
     from: &mut impl Read,
@@ -102,13 +102,11 @@ fn run(
         image_used: 0,
         ops_used: 0,
     };
-    let mut turns: u64 = 18446744073709551615;
-    while turns > 0 {
+    for _ in 0..u64::MAX {
         let Some(c) = input::read_command(rt, from, bytes)? else {
             return Ok(());
         };
         kept = carry_out(rt, c, kept, &mut state, image, ops, bytes, out)?;
-        turns -= 1;
     }
     Ok(())
 }
