@@ -69,7 +69,11 @@ fn write_refusal<W: Write>(to: &mut W, why: Refusal) -> io::Result<()>
 }
 
 // Writes what a loading answers: the image's bytes, or a refusal.
-fn write_answer<W: Write>(to: &mut W, answer: Result<(), Refusal>, image: &[u64; 8192]) -> io::Result<()>
+fn write_answer<W: Write>(
+    to: &mut W,
+    answer: Result<(), Refusal>,
+    image: &[u64; 8192],
+) -> io::Result<()>
     ensures { OnOk result (Appends (W.contents to.old) (W.contents to.new) (reply_bytes (answer_reply answer image.now))) }
 {
     match answer {
