@@ -39,13 +39,9 @@ fn now(clock: &impl CpuClock) -> u64 {
     }
 }
 
-// The time since an earlier look at the clock.
+// The time since an earlier look at the clock, 0 if it went back.
 fn since(clock: &impl CpuClock, before: u64) -> u64 {
-    let after = now(clock);
-    if after < before {
-        return 0;
-    }
-    after - before
+    now(clock).saturating_sub(before)
 }
 
 // Does the work of job 1, 15, 3 or, for any other number, 4, so often: appends by four calls or by one, each followed by
@@ -60,23 +56,25 @@ fn work(
 ) -> usize
     ensures { result ≤ length text.old }
 {
-    if (job.number == 1) | (job.number == 15) {
-        log::append_over(
-            s,
-            image,
-            ops,
-            payload,
-            job.live,
-            job.count,
-            job.number == 15,
-        );
-        return 0;
+    match job.number {
+        1 | 15 => {
+            log::append_over(
+                s,
+                image,
+                ops,
+                payload,
+                job.live,
+                job.count,
+                job.number == 15,
+            );
+            0
+        }
+        3 => {
+            log::recover_over(image, ops, job.count);
+            0
+        }
+        _ => log::list_over(image, text, job.count),
     }
-    if job.number == 3 {
-        log::recover_over(image, ops, job.count);
-        return 0;
-    }
-    log::list_over(image, text, job.count)
 }
 
 // Job 1000 + k: the release of the head with k released records after it, so often, each time of the same state. Job
@@ -103,10 +101,10 @@ fn release_job(
 
 // A CRC-32 of what a job left: of the image after appends and recoveries, of the text after listings.
 fn digest_of(number: u64, image: &[u64], text: &[u8]) -> u64 {
-    if (number == 1) | (number == 3) | (number == 15) {
-        return room::digest(image);
+    match number {
+        1 | 3 | 15 => room::digest(image),
+        _ => crc32::crc_bytes(text) as u64,
     }
-    crc32::crc_bytes(text) as u64
 }
 
 // Does job 1, 3, 4 or 15 on a log with `live` records.
@@ -146,10 +144,7 @@ fn crc_job(clock: &impl CpuClock, job: Job, payload: &[u8], words: &mut [u64]) -
 fn limited(n: u64, limit: usize) -> usize
     ensures { (result ≤ limit) × (result ≤ n) }
 {
-    if (limit as u64) < n {
-        return limit;
-    }
-    n as usize
+    n.min(limit as u64) as usize
 }
 
 // Does a job. Numbers above the limits are taken down to them.

@@ -2,7 +2,7 @@
 ghost use Rattle.std.specs.Prelude.{◌≤◌, length};
 
 use drivelog::{State, append, complete, copy, force, format, recover, release, reserve};
-use list_image::{Listed, list_image};
+use list_image::list_image;
 
 // One record more, reserved and filled.
 fn draft(s: State, image: &mut [u64], ops: &mut [u64], payload: &[u8]) -> State {
@@ -31,24 +31,18 @@ fn one_more(s: State, image: &mut [u64], ops: &mut [u64], payload: &[u8], once: 
 
 // Whether more than `live` records are live and the head is committed.
 fn is_over(head: u64, next: u64, committed: u64, live: u64) -> bool {
-    if next < head {
-        return false;
-    }
-    (head <= committed) & (live < next - head)
+    (head <= committed) & (live < next.saturating_sub(head))
 }
 
-// Records released from the head on, committed ones only, until `live` are left. A proved loop has to end: 256 turns
-// are enough.
+// Records released from the head on, committed ones only, until `live` are left. 256 turns are enough.
 pub fn trim(s: State, image: &mut [u64], ops: &mut [u64], live: u64) -> State {
     let mut t = s;
-    let mut turns: u64 = 256;
-    while 0 < turns {
+    for _ in 0..256 {
         if !is_over(t.head_lsn, t.next_lsn, t.committed_lsn, live) {
             return t;
         }
         let released = release(t, image, ops, t.head_lsn);
         t = released.state;
-        turns -= 1;
     }
     t
 }
@@ -64,11 +58,9 @@ pub fn append_over(
     once: bool,
 ) -> State {
     let mut t = s;
-    let mut left = count;
-    while 0 < left {
+    for _ in 0..count {
         t = one_more(t, image, ops, payload, once);
         t = trim(t, image, ops, live);
-        left -= 1;
     }
     t
 }
@@ -81,33 +73,27 @@ pub fn start(image: &mut [u64], ops: &mut [u64], payload: &[u8], live: u64) -> S
     forced.state
 }
 
-// The `k` records after the head released. A proved loop has to end: it goes up to the LSN after them.
+// The `k` records after the head released, the last one first.
 pub fn release_behind(s: State, image: &mut [u64], ops: &mut [u64], k: u64) -> State {
     let mut t = s;
-    let mut left = k;
-    while 0 < left {
-        let released = release(t, image, ops, s.head_lsn.wrapping_add(left));
+    for after in (0..k).rev() {
+        let released = release(t, image, ops, s.head_lsn.wrapping_add(after + 1));
         t = released.state;
-        left -= 1;
     }
     t
 }
 
 // So many releases of an LSN, each of the same state.
 pub fn release_over(s: State, image: &mut [u64], ops: &mut [u64], lsn: u64, count: u64) {
-    let mut left = count;
-    while 0 < left {
+    for _ in 0..count {
         release(s, image, ops, lsn);
-        left -= 1;
     }
 }
 
 // So many recoveries of an image.
 pub fn recover_over(image: &mut [u64], ops: &mut [u64], count: u64) {
-    let mut left = count;
-    while 0 < left {
+    for _ in 0..count {
         recover(image, ops);
-        left -= 1;
     }
 }
 
@@ -117,8 +103,8 @@ fn list(image: &[u64], text: &mut [u8]) -> usize
 {
     let listed = list_image(image, text);
     match listed {
-        Listed::Text(end) => end,
-        Listed::NoRoom => 0,
+        Some(end) => end,
+        None => 0,
     }
 }
 
@@ -127,10 +113,8 @@ pub fn list_over(image: &[u64], text: &mut [u8], count: u64) -> usize
     ensures { result ≤ length text.old }
 {
     let mut end: usize = 0;
-    let mut left = count;
-    while 0 < left {
+    for _ in 0..count {
         end = list(image, text);
-        left -= 1;
     }
     end
 }

@@ -21,10 +21,8 @@ pub fn payload() -> [u8; BYTES]
     ensures { 1024 ≡ length result }
 {
     let mut bytes = [0u8; BYTES];
-    let mut i: usize = 0;
-    while i < BYTES {
+    for i in 0..BYTES {
         bytes[i] = ((7 * i + 3) % 256) as u8;
-        i += 1;
     }
     bytes
 }
@@ -36,7 +34,7 @@ pub fn digest(words: &[u64]) -> u64 {
 
 // Words with another first one, if there is one.
 fn put_first(words: &mut [u64], first: u64) {
-    if 0 < words.len() {
+    if !words.is_empty() {
         words[0] = first;
     }
 }
@@ -44,11 +42,9 @@ fn put_first(words: &mut [u64], first: u64) {
 // So many CRC-32s of words, each of which then becomes their first one. Returns the last.
 pub fn digest_over(words: &mut [u64], count: u64) -> u64 {
     let mut last: u64 = 0;
-    let mut left = count;
-    while 0 < left {
+    for _ in 0..count {
         last = digest(words);
         put_first(words, last);
-        left -= 1;
     }
     last
 }

@@ -1,2 +1,2 @@
--- The calls for C, by what the calls below them answer.
+-- What the calls answer is small.
 pub mod CrashCallLaws

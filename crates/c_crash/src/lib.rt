@@ -14,20 +14,19 @@ ghost use Rattle.c_crash.specs.InnerReport.{number_in, Reports};
 
 use c_reply::{REPLY_WORDS, granted_value, put_refusal, put_reply};
 use call_crash_images::{crash_count, crash_image};
-use crash_images::CrashAnswer;
 use refusal::Refusal;
 
 // Reports an answer and returns it.
-fn report(answer: CrashAnswer, reply: &mut [u64]) -> i64
+fn report(answer: Result<u64, Refusal>, reply: &mut [u64]) -> i64
     requires { (reply_size ≤ length reply.old) × (number_in (answered answer) ≤ max_crashes) }
     ensures { Reports (answered answer) result (given reply) (left reply) }
 {
     match answer {
-        CrashAnswer::Number(number) => {
+        Ok(number) => {
             put_reply(0, 0, 0, 0, reply);
             granted_value(number)
         }
-        CrashAnswer::Refused(refusal) => put_refusal(refusal, reply),
+        Err(refusal) => put_refusal(refusal, reply),
     }
 }
 

@@ -8,42 +8,22 @@ use Prim.Native.Nat.{ℕ, ◌≤◌, ◌<◌}
 use native.Mathlib.Omega.{arith}
 use lib.ListN.{length}
 use lib.Dec.{leb, ltb, eqb}
-use borrow.Author.Tests.{eqb-true, eq-eqb, ne_eqb, lt-ltb, le-ltb, le-leb, lt-leb}
+use borrow.Author.Tests.{eqb-true, eq-eqb, lt-ltb, le-ltb, le-leb, lt-leb}
 use Rattle.refusal.specs.Tests.{Reply, ok, refused, because, test, decide, verdict}
 use Rattle.refusal.specs.declared.Why.{Why}
-use Rattle.refusal.specs.declared.Verdict.TheVariants.{Pass}
-use Rattle.refusal.proofs.RowLaws.{none_failed}
-use Rattle.refusal.proofs.TestLaws.{AllPass, first_passes, rest_pass, row_fails, row_passes, refusal_decides, op_test_passes}
+use Rattle.std.specs.Prelude.{Ok}
+use Rattle.refusal.proofs.TestLaws.{AllPass, answered, first_passes, rest_pass, refusal_decides, op_test_passes}
 use Rattle.scan.specs.Open.{image_size_ok, size_test}
-use Rattle.scan.proofs.OrLaws.{or_true}
 use Rattle.crash_images.specs.CrashImages.{max_crashes, total, count_reply, Crash, crash_number, crash_reply, left_by, point_reply, output_left, op_ok}
 use Rattle.device.specs.ReadOps.{ops_of, first_other}
 use Rattle.refusal.specs.Tests.{op_test}
 use Rattle.crash_images.specs.InnerSteps.{GoodOps}
 use Rattle.crash_images.proofs.BufferLaws.{good_ops}
 use Rattle.call_crash_images.specs.InnerPut.{lent_tests, Tests}
-use Rattle.call_crash_images.specs.declared.Tested.{Tested}
 
 or_none : (a : Bool) → (a || false) ≡ a
 or_none true = refl
 or_none false = refl
-
--- the tests of what is lent, as the code goes through them
-module _ {ok-size : Bool} (n room : ℕ) (buffer : List ℕ) (e : ok-size ≡ image_size_ok n) where
-  pub size_met : not ok-size ≡ true → refused (because 1 0) ≡ verdict (lent_tests n room buffer)
-  size_met h = sym (row_fails (test (not (image_size_ok n) || not (eqb room n)) 1 0)
-      (op_test (first_other (op_ok n) 0 buffer) ∷ []) refused (ok tt) (rw (← e, h)))
-
-  pub room_met : (room ≡ n → ⊥) → refused (because 1 0) ≡ verdict (lent_tests n room buffer)
-  room_met h = sym (row_fails (test (not (image_size_ok n) || not (eqb room n)) 1 0)
-      (op_test (first_other (op_ok n) 0 buffer) ∷ []) refused (ok tt)
-      (rw (ne_eqb room n h) (or_true (not (image_size_ok n)))))
-
-  pub lent_rest : not ok-size ≡ false → room ≡ n → {v : Reply (Unit {0})}
-      → v ≡ verdict (op_test (first_other (op_ok n) 0 buffer) ∷ [])
-      → v ≡ verdict (lent_tests n room buffer)
-  lent_rest h l p = p ∙ sym (row_passes (test (not (image_size_ok n) || not (eqb room n)) 1 0)
-      (op_test (first_other (op_ok n) 0 buffer) ∷ []) refused (ok tt) (rw (← e, h, eq-eqb room n l)))
 
 -- what is lent is as it has to be
 pub record Fine (n room : ℕ) (buffer : List ℕ) : Type 0 where
@@ -64,9 +44,9 @@ fine n room buffer p = record {
     go true b e h = absurd (false≢true (sym h))
 
 -- the words lent pass
-pub passed : (n room : ℕ) (ops : List ℕ) (r : Tested) → r.verdict ≡ Pass → Tests (lent_tests n room ops) (ops_of ops) r
+pub passed : (n room : ℕ) (ops : List ℕ) {stores : ℕ} → Tests (lent_tests n room ops) (ops_of ops) (Ok stores)
     → Fine n room ops
-passed n room ops r e t = fine n room ops (none_failed (lent_tests n room ops) e t.verdict)
+passed n room ops t = fine n room ops (answered (lent_tests n room ops) (ok tt) tt (sym t.verdict)).0
 
 pub fine_ops : {n room : ℕ} {buffer : List ℕ} → Fine n room buffer → GoodOps n buffer
 fine_ops {n} {room} {buffer} f = good_ops n 0 buffer f.ops

@@ -1,32 +1,33 @@
 -- The image put: the flushed values of all words, and then the choices of those in the table.
 -- Cites InnerSteps.antt of crash_images, and InnerPut.antt.
 use mathlib.Core.Path.{◌≡◌, refl, sym, ◌∙◌, ap, subst}
-use mathlib.Core.Bool.{Bool, true, false, cond, ◌&&◌, ◌||◌}
-use mathlib.Core.List.{List, [], ◌∷◌, ◌++◌, append_assoc, append-nil}
-use Prim.Native.Nat.{ℕ, zero, suc, ◌+◌, ◌-◌, ◌*◌, ◌/◌, ◌%◌, ◌≤◌, ◌<◌}
+use mathlib.Core.Bool.{Bool, true, false, cond, ◌||◌}
+use mathlib.Core.List.{List, [], ◌∷◌, ◌++◌, append_assoc, append-nil, map, reverse}
+use Rattle.std.specs.Prelude.{Option, Some, None, unwrap_or}
+use Rattle.std.specs.Option.{option_map, option_map_or}
+use Rattle.std.specs.List.{filter, slice_get}
+use Rattle.std.proofs.lemmas.Option.{slice_get-map, unwrap_or-slice_get}
+use Rattle.std.proofs.lemmas.Grind.{reverse_onto}
+use Rattle.crash_table.proofs.TableTurns.{eqb_swap}
+use Prim.Native.Nat.{ℕ, zero, suc, ◌+◌, ◌-◌, ◌*◌, ◌/◌, ◌%◌, ◌≤◌, ◌<◌, min}
 use native.Mathlib.Omega.{arith}
 use native.Mathlib.Nat.{mod-one, div-one}
 use native.Mathlib.Numerals.{add-one}
 use lib.ListN.{length, get_or, set, take, length-set}
-use lib.Seq.{take_all, take-suc, take-suc-set, get_or-set_same, get_or-set_other}
+use lib.Seq.{take_all, take-suc, get_or-set_same, get_or-set_other}
 use lib.Dec.{eqb}
 use borrow.Author.Tests.{eqb-true, eqb-false, eq-eqb, ne_eqb}
 use Rattle.device.specs.Ops.{Op, store, flush}
 use Rattle.device.specs.Crash.{within}
 use Rattle.crash_images.specs.CrashImages.{Crash, crash_number, image_left}
 use Rattle.device.specs.ReadOps.{ops_of}
-use Rattle.crash_images.specs.InnerSteps.{Entry, op_at, newest_step, newest_at, flushed_step, flushed_at, entries_in, entries_of, values_of, table_at, words_by, GoodOps}
-use Rattle.crash_images.proofs.StepLaws.{entries_values}
+use Rattle.crash_images.specs.declared.Entry.{Entry}
+use Rattle.crash_images.specs.InnerSteps.{op_at, newest_step, newest_at, flushed_step, flushed_at, entries_of, values_of, table_at, words_by, GoodOps}
 use Rattle.crash_images.proofs.StepTotals.{crash_by_steps, left_by_steps}
 use Rattle.crash_images.proofs.BufferLaws.{ops_at, ops_long}
-use Rattle.crash_images.proofs.TableLaws.{entries_any, choice_turn, fill_turn}
-use Rattle.call_crash_images.specs.InnerPut.{IsFlush, NextStore, Finds, stores_to, stored_by, FlushedOf, FlushedWords, Lowers, NextWord, PutsChoice}
+use Rattle.crash_images.proofs.TableLaws.{fill_turn}
+use Rattle.call_crash_images.specs.InnerPut.{IsFlush, LastStore, Finds, stores_to, stored_by, FlushedOf, FlushedWords, NextWord, PutsChoice}
 use Rattle.call_crash_images.specs.declared.Found.{Found}
-
--- a copy goes on by a word
-pub copy_turn : (image output : List ℕ) (w : ℕ) → w < length image → w < length output → take w output ≡ take w image
-    → take (w + 1) (set output w (get_or image w 0)) ≡ take (w + 1) image
-copy_turn image output w h l e = rw (add-one w, take-suc-set output w (get_or image w 0) l, take-suc image w 0 h, e)
 
 -- a word that none of the first k ops stores to has its first value
 unstored : (image : List ℕ) (os : List Op) (k w : ℕ) → stored_by os k w ≡ false
@@ -81,33 +82,31 @@ stored_before os j (suc d) w f = let z : j + suc d ≡ suc (j + d) = omega arith
     go (store x v) g = absurd g
     go (flush a c) g = refl
 
-module _ (image : List ℕ) (os : List Op) (k end next : ℕ) where
-  flushed_past : (j : ℕ) (output : List ℕ) → NextStore os j end next → FlushedTo image os k j output
-      → FlushedTo image os k next output
-  flushed_past j output n f = λ w. rw (same w) (f w)
-    where
-      same : (w : ℕ) → stored_by os next w ≡ stored_by os j w
-      same w = let z : j + (next - j) ≡ next = omega (arith, n.above) in
-          rw z at (stored_before os j (next - j) w (λ i a b. n.flushes i a (omega arith)))
+-- an image copied, and the word of op j put
+pub flushed_start : (image : List ℕ) (os : List Op) (k : ℕ) (output : List ℕ) → output ≡ image
+    → FlushedTo image os k 0 output
+flushed_start image os k output e = subst (FlushedTo image os k 0) (sym e) (flushed_first image os k)
 
-  -- an image copied, up to the first store
-  pub flushed_start : (output : List ℕ) → output ≡ image → NextStore os 0 end next → FlushedTo image os k next output
-  flushed_start output e n =
-      flushed_past 0 output n (subst (FlushedTo image os k 0) (sym e) (flushed_first image os k))
+pub flushed_turn : (image : List ℕ) (os : List Op) (k j : ℕ) (output output' : List ℕ) → FlushedTo image os k j output
+    → FlushedOf image os k j output output' → FlushedTo image os k (j + 1) output'
+unfolding stored_by
+flushed_turn image os k j output output' f g =
+    λ w. rw (add-one j) (g.each w ∙ go w (stores_to (op_at os j) w) (f w))
+  where
+    go : (w : ℕ) (b : Bool) → get_or output w 0 ≡ cond (stored_by os j w) (flushed_at image os k w) (get_or image w 0)
+        → cond b (flushed_at image os k w) (get_or output w 0)
+        ≡ cond (b || stored_by os j w) (flushed_at image os k w) (get_or image w 0)
+    go w true e = refl
+    go w false e = e
 
-  -- the word of op j put, up to the next store
-  pub flushed_turn : (j : ℕ) (output output' : List ℕ) → FlushedTo image os k j output
-      → FlushedOf image os k j output output' → NextStore os (j + 1) end next → FlushedTo image os k next output'
-  unfolding stored_by
-  flushed_turn j output output' f g n =
-      flushed_past (j + 1) output' n
-      (λ w. rw (add-one j) (g.each w ∙ go w (stores_to (op_at os j) w) (f w)))
-    where
-      go : (w : ℕ) (b : Bool) → get_or output w 0 ≡ cond (stored_by os j w) (flushed_at image os k w) (get_or image w 0)
-          → cond b (flushed_at image os k w) (get_or output w 0)
-          ≡ cond (b || stored_by os j w) (flushed_at image os k w) (get_or image w 0)
-      go w true e = refl
-      go w false e = e
+-- no op after the last store matters
+pub flushed_last : (image : List ℕ) (os : List Op) (k stores j : ℕ) (output : List ℕ) → LastStore os stores
+    → k ≤ length os → j ≡ min k stores → FlushedTo image os k j output → FlushedTo image os k k output
+flushed_last image os k stores j output l h e f = λ w. rw (same w) (f w)
+  where
+    same : (w : ℕ) → stored_by os k w ≡ stored_by os j w
+    same w = let z : j + (k - j) ≡ k = omega arith in
+        rw z at (stored_before os j (k - j) w (λ i a b. l.flushes i (omega arith) (omega arith)))
 
 pub flushed_all : (image : List ℕ) (os : List Op) (k : ℕ) (output : List ℕ) → FlushedTo image os k k output
     → FlushedWords image os k output
@@ -146,60 +145,78 @@ module _ (image buffer : List ℕ) (k j : ℕ) (h : j * 3 + 3 ≤ length buffer)
   }
 
 -- the lowest word of a table
-pub next_first : (words values : List ℕ) (from n : ℕ) → from ≤ n → NextWord (entries_in words values 0) from n n
-unfolding entries_in entries_of
-next_first words values from n h = record { above = h; below = omega arith; none = λ w a b. refl }
+pub next_first : (from n : ℕ) → from ≤ n → NextWord [] from n n
+unfolding entries_of
+next_first from n h = record { above = h; below = omega arith; none = λ w a b. refl }
 
-pub next_turn : (words : List ℕ) (j from n best best' : ℕ) → NextWord (entries_in words words j) from n best
-    → Lowers best from (get_or words j 0) best' → NextWord (entries_in words words (j + 1)) from n best'
-unfolding entries_in entries_of
-next_turn words j from n best best' i l = record {
-  above = l.above i.above;
-  below = omega (arith, l.below, i.below);
-  none = λ w a b. rw (add-one j) (none w a b);
+pub next_lower : (e : Entry) (t : List Entry) (from n best : ℕ) → NextWord t from n best → from ≤ e.word
+    → NextWord (e ∷ t) from n (min best e.word)
+unfolding entries_of
+next_lower e t from n best i h = record {
+  above = omega (arith, i.above);
+  below = omega (arith, i.below);
+  none = λ w a b. rw (ne_eqb w e.word (λ z. omega arith)) (i.none w a (omega arith));
 }
-  where
-    none : (w : ℕ) → from ≤ w → w < best'
-        → cond (eqb w (get_or words j 0)) (suc (entries_of w (entries_in words words j)))
-        (entries_of w (entries_in words words j)) ≡ 0
-    none w a b = rw (ne_eqb w (get_or words j 0) (λ z. omega (arith, l.low (omega arith))))
-        (i.none w a (omega (arith, l.below)))
 
--- the values of the entries do not matter to it
-pub next_any : (words values : List ℕ) (len : ℕ) {from n r : ℕ} → NextWord (entries_in words words len) from n r
-    → NextWord (entries_in words values len) from n r
-next_any words values len i = record {
+pub next_other : (e : Entry) (t : List Entry) (from n best : ℕ) → NextWord t from n best → e.word < from
+    → NextWord (e ∷ t) from n best
+unfolding entries_of
+next_other e t from n best i h = record {
   above = i.above;
   below = i.below;
-  none = λ w a b. entries_any words values words w len ∙ i.none w a b;
+  none = λ w a b. rw (ne_eqb w e.word (λ z. omega arith)) (i.none w a b);
 }
 
--- choice d of a word, with one entry more looked at
-pub no_other : (d flushed : ℕ) → (d ≡ 0 → ⊥) → 0 ≡ get_or (flushed ∷ []) d 0
-no_other zero flushed h = absurd (h refl)
-no_other (suc d) flushed h = refl
+-- the values of a word
+values_append : (w : ℕ) (a b : List Entry) → values_of w (a ++ b) ≡ values_of w b ++ values_of w a
+unfolding values_of
+values_append w [] b = sym (append-nil (values_of w b))
+values_append w (e ∷ a) b = go (eqb w e.word) (values_append w a b)
+  where
+    go : (c : Bool) → values_of w (a ++ b) ≡ values_of w b ++ values_of w a
+        → cond c (values_of w (a ++ b) ++ (e.value ∷ [])) (values_of w (a ++ b))
+        ≡ values_of w b ++ cond c (values_of w a ++ (e.value ∷ [])) (values_of w a)
+    go true r = rw r (append_assoc (values_of w b) (values_of w a) (e.value ∷ []))
+    go false r = r
 
-pub choice_step : (words values : List ℕ) (flushed w d j value count value' : ℕ)
-    → value ≡ get_or (flushed ∷ values_of w (entries_in words values j)) d 0
-    → count ≡ entries_of w (entries_in words values j)
-    → value' ≡ cond (eqb w (get_or words j 0) && eqb d (1 + count)) (get_or values j 0) value
-    → value' ≡ get_or (flushed ∷ values_of w (entries_in words values (j + 1))) d 0
-choice_step words values flushed w d j value count value' p q r =
-    rw (choice_turn words values flushed w d j, ← p, ← q) r
+pub values_is : (w : ℕ) (xs : List Entry)
+    → values_of w (reverse xs) ≡ map (λ e. e.value) (filter (λ e. eqb e.word w) xs)
+unfolding values_of
+values_is w [] = refl
+values_is w (x ∷ xs) =
+    ap (values_of w) (reverse_onto xs x []) ∙ values_append w (reverse xs) (x ∷ [])
+    ∙ rw (values_is w xs, eqb_swap w x.word) (go (eqb x.word w))
+  where
+    go : (c : Bool) → cond c (x.value ∷ []) [] ++ map (λ e. e.value) (filter (λ e. eqb e.word w) xs)
+        ≡ map (λ e. e.value) (cond c (x ∷ filter (λ e. eqb e.word w) xs) (filter (λ e. eqb e.word w) xs))
+    go true = refl
+    go false = refl
+
+-- and choice d of them, as the one before it of the entries
+pub choice_is : {B : Type 0} (flushed w d : ℕ) (xs : List Entry) (r : Option B) (read : B → Entry) → (d ≡ 0 → ⊥)
+    → option_map read r ≡ slice_get (filter (λ e. eqb e.word w) xs) (d - 1)
+    → option_map_or (λ b. (read b).value) r 0 ≡ get_or (flushed ∷ values_of w (reverse xs)) d 0
+choice_is flushed w zero xs r read h e = absurd (h refl)
+choice_is {B} flushed w (suc d) xs r read h e =
+    let z : suc d - 1 ≡ d = omega arith in
+    value r ∙ rw (rw z at e, ← slice_get-map (λ (x : Entry). x.value) (filter (λ e. eqb e.word w) xs) d, values_is w xs)
+    (unwrap_or-slice_get (map (λ (x : Entry). x.value) (filter (λ e. eqb e.word w) xs)) d 0)
+  where
+    value : (r : Option B)
+        → option_map_or (λ b. (read b).value) r 0
+        ≡ unwrap_or (option_map (λ (x : Entry). x.value) (option_map read r)) 0
+    value None = refl
+    value (Some b) = refl
 
 -- a word's choice is put
-pub put_choice_is : (words values : List ℕ) (len w m c x : ℕ) (output : List ℕ)
-    → c ≡ entries_of w (entries_in words words len)
-    → x ≡ get_or (get_or output w 0 ∷ values_of w (entries_in words values len)) (m % (1 + c)) 0
-    → PutsChoice (entries_in words values len) w m (m / (1 + c)) output (set output w x)
-put_choice_is words values len w m c x output e q = record {
+pub put_choice_is : (t : List Entry) (w m c x : ℕ) (output : List ℕ) → c ≡ entries_of w t
+    → x ≡ get_or (get_or output w 0 ∷ values_of w t) (m % (1 + c)) 0
+    → PutsChoice t w m (m / (1 + c)) output (set output w x)
+put_choice_is t w m c x output e q = record {
   put = ap (λ (y : ℕ). set output w y)
-      (q ∙ ap (λ (n : ℕ). get_or (get_or output w 0 ∷ values_of w (entries_in words values len)) (m % (1 + n)) 0) of);
-  rest = ap (λ (n : ℕ). m / (1 + n)) of;
+      (q ∙ ap (λ (n : ℕ). get_or (get_or output w 0 ∷ values_of w t) (m % (1 + n)) 0) e);
+  rest = ap (λ (n : ℕ). m / (1 + n)) e;
 }
-  where
-    of : c ≡ entries_of w (entries_in words values len)
-    of = e ∙ entries_any words words values w len
 
 -- words from w on are put as they were; those before them are done
 pub record Filled (t : List Entry) (old : List ℕ) (m w rest : ℕ) (output : List ℕ) : Type 0 where
@@ -213,13 +230,6 @@ filled_first t old m = record { size = refl; same = λ x h. refl; end = rw all }
   where
     all : length old - 0 ≡ length old
     all = omega arith
-
-no_values : (w : ℕ) (t : List Entry) → entries_of w t ≡ 0 → values_of w t ≡ []
-no_values w t e = go (values_of w t) (entries_values w t ∙ e)
-  where
-    go : (l : List ℕ) → length l ≡ 0 → l ≡ []
-    go [] h = refl
-    go (x ∷ l) h = absurd (omega arith)
 
 -- a word without entries is left as it is
 module _ (t : List Entry) (old : List ℕ) (m rest : ℕ) (output : List ℕ) where
@@ -287,8 +297,8 @@ words_same f g t w zero m h = refl
 words_same f g t w (suc count) m h = rw (h w, words_same f g t (suc w) count (m / (1 + entries_of w t)) h)
 
 -- the image of a crash that is found: its flushed values, and then its choices
-module _ (image buffer : List ℕ) (good : GoodOps (length image) buffer) (i : ℕ) (r : Found) (words values : List ℕ)
-    (f : Finds image (ops_of buffer) i r words values) where
+module _ (image buffer : List ℕ) (good : GoodOps (length image) buffer) (i : ℕ) (r : Found) (t : List Entry)
+    (f : Finds image (ops_of buffer) i r t) where
   number_at : crash_number image (ops_of buffer) i ≡ record { point = r.point; choice = r.choice }
   number_at =
       rw f.number (crash_by_steps image (ops_of buffer) good.each r.point r.choice f.point f.choice)
@@ -298,7 +308,7 @@ module _ (image buffer : List ℕ) (good : GoodOps (length image) buffer) (i : �
 
   pub found_image : {flushed output : List ℕ}
       → FlushedWords image (ops_of buffer) r.point flushed → length flushed ≡ length image
-      → output ≡ words_by (λ w. get_or flushed w 0) (entries_in words values r.len) 0 (length flushed) r.choice
+      → output ≡ words_by (λ w. get_or flushed w 0) t 0 (length flushed) r.choice
       → output ≡ image_left image (ops_of buffer) i
   found_image {flushed} {output} same size e = e
       ∙ rw (f.table, size)

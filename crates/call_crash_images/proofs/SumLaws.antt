@@ -14,26 +14,11 @@ use borrow.Author.Tests.{ltb-true, ltb-false, leb-true, leb-false}
 use Rattle.device.specs.Ops.{Op, store, flush}
 use Rattle.crash_images.specs.CrashImages.{total, max_crashes}
 use Rattle.device.specs.ReadOps.{ops_of}
-use Rattle.crash_images.specs.InnerSteps.{Entry, op_at, flushed_at, without, entries_in, table_step, table_at, table_count, crashes_before, GoodOps}
-use Rattle.crash_images.proofs.BufferLaws.{ops_long}
+use Rattle.crash_images.specs.declared.Entry.{Entry}
+use Rattle.crash_images.specs.InnerSteps.{op_at, flushed_at, without, table_step, table_at, table_count, crashes_before, GoodOps}
 use Rattle.crash_images.proofs.StepTotals.{total_by_steps, table_fits, count_step}
-use Rattle.crash_table.specs.InnerTable.{IsTable, table_room}
-use Rattle.crash_table.specs.declared.Size.{Size}
-use Rattle.call_crash_images.specs.InnerPut.{IsFlush, LastStore, NextStore, NextChange, Totals, Finds}
-
-entries_length : (words values : List ℕ) (len : ℕ) → length (entries_in words values len) ≡ len
-unfolding entries_in
-entries_length words values zero = refl
-entries_length words values (suc len) = ap suc (entries_length words values len)
-
-pub table_len : {t : List Entry} {words values : List ℕ} {size : Size} → IsTable t words values size
-    → size.len ≡ length t
-table_len {t} {words} {values} {size} i = sym (entries_length words values size.len) ∙ ap length i.entries
-
-pub table_empty : (image : List ℕ) (os : List Op) (words values : List ℕ)
-    → IsTable (table_at image os 0) words values (record { len = 0; images = 1 })
-unfolding table_at entries_in table_count
-table_empty image os words values = record { entries = refl; images = refl }
+use Rattle.crash_table.specs.InnerTable.{table_room}
+use Rattle.call_crash_images.specs.InnerPut.{IsFlush, NextStore, NextChange, Totals, Finds}
 
 before_rises : (image : List ℕ) (os : List Op) (k d : ℕ) → crashes_before image os k ≤ crashes_before image os (d + k)
 unfolding crashes_before
@@ -46,10 +31,7 @@ before_rises image os k (suc d) = rw (more d k) (omega (arith, before_rises imag
     more : (x y : ℕ) → suc x + y ≡ suc (x + y)
     more x y = omega arith
 
--- the search for a store: it begins, and goes on past a flush
-pub store_first : (os : List Op) (k end : ℕ) → k ≤ end → NextStore os k end k
-store_first os k end h = record { above = omega arith; below = h; flushes = λ j a b. absurd (omega arith) }
-
+-- the search for a store goes on past a flush
 pub store_turn : (os : List Op) (k end j : ℕ) → NextStore os k end j → j < end → IsFlush (op_at os j)
     → NextStore os k end (j + 1)
 store_turn os k end j n h f = record {
@@ -61,20 +43,6 @@ store_turn os k end j n h f = record {
     go : (i : ℕ) → k ≤ i → i < j + 1 → Dec (i < j) → IsFlush (op_at os i)
     go i a b (yes l) = n.flushes i a l
     go i a b (no l) = let e : i ≡ j = omega arith in rw e f
-
--- it ends at the last store, or where it has to
-pub store_ends : (buffer : List ℕ) (stores k end j to : ℕ) → LastStore (ops_of buffer) stores → end * 3 ≤ length buffer
-    → k ≤ end → (to < end → to ≡ stores) → to ≤ j → NextStore (ops_of buffer) k end j
-    → NextStore (ops_of buffer) k end end
-store_ends buffer stores k end j to s h l e m n = record {
-  above = l;
-  below = omega arith;
-  flushes = λ i a b. go i a b (dec_lt i j);
-}
-  where
-    go : (i : ℕ) → k ≤ i → i < end → Dec (i < j) → IsFlush (op_at (ops_of buffer) i)
-    go i a b (yes p) = n.flushes i a p
-    go i a b (no p) = s.flushes i (omega (arith, e (omega arith))) (ops_long buffer i (omega arith))
 
 -- a flush leaves an empty table empty
 flush_empty : (o : Op) (flushed : ℕ → ℕ) (t : List Entry) → IsFlush o → t ≡ [] → table_step o flushed t ≡ []
@@ -107,8 +75,8 @@ no_entries [] h = refl
 no_entries (e ∷ t) h = absurd (omega arith)
 
 -- so the table at the next op that can change it is the one now
-module _ (image : List ℕ) (os : List Op) (k end next : ℕ) {words values : List ℕ} {size : Size}
-    (t : IsTable (table_at image os k) words values size) (n : NextChange os k end size.len next) where
+module _ (image : List ℕ) (os : List Op) (k end next : ℕ) (t : List Entry) (e : t ≡ table_at image os k)
+    (n : NextChange os k end (length t) next) where
   idle : (table_at image os next ≡ table_at image os k)
       × (crashes_before image os next ≡ crashes_before image os k + (next - k))
   idle = go (dec_lt k next)
@@ -116,17 +84,17 @@ module _ (image : List ℕ) (os : List Op) (k end next : ℕ) {words values : Li
       go : Dec (k < next) → (table_at image os next ≡ table_at image os k)
           × (crashes_before image os next ≡ crashes_before image os k + (next - k))
       go (yes l) =
-          let e = no_entries (table_at image os k) (sym (table_len t) ∙ n.empty l) in
+          let none = no_entries (table_at image os k) (ap length (sym e) ∙ n.empty l) in
           let z : k + (next - k) ≡ next = omega arith in
           let f : (j : ℕ) → k ≤ j → j < k + (next - k) → IsFlush (op_at os j) =
           λ j a b. n.next.flushes j a (omega arith) in (
-            rw z at (still_empty image os k e (next - k) f) ∙ sym e,
-            rw z at (one_each image os k e (next - k) f),
+            rw z at (still_empty image os k none (next - k) f) ∙ sym none,
+            rw z at (one_each image os k none (next - k) f),
           )
       go (no l) = let z : next ≡ k = omega (arith, n.next.above) in rw z (refl, omega arith)
 
-  pub idle_table : IsTable (table_at image os next) words values size
-  idle_table = rw idle.0 t
+  pub idle_table : t ≡ table_at image os next
+  idle_table = e ∙ sym idle.0
 
   pub idle_before : crashes_before image os next ≡ crashes_before image os k + (next - k)
   idle_before = idle.1
@@ -136,25 +104,17 @@ module _ (image : List ℕ) (os : List Op) (end next : ℕ) (n : NextStore os 0 
   first_change : NextChange os 0 end 0 next
   first_change = record { next = n; empty = λ l. refl }
 
-  pub table_start : (words values : List ℕ)
-      → IsTable (table_at image os next) words values (record { len = 0; images = 1 })
-  table_start words values = idle_table image os 0 end next (table_empty image os words values) first_change
+  pub table_start : [] ≡ table_at image os next
+  unfolding table_at
+  table_start = idle_table image os 0 end next [] refl first_change
 
   pub before_start : crashes_before image os next ≡ next
-  unfolding crashes_before
-  before_start = omega (arith, idle_before image os 0 end next (table_empty image os [] []) first_change)
+  unfolding crashes_before table_at
+  before_start = omega (arith, idle_before image os 0 end next [] refl first_change)
 
   pub sum_start : 1 + next ≡ crashes_before image os (suc next)
-  unfolding crashes_before
-  sum_start = omega (arith, before_start, (table_start [] []).images)
-
--- what is at most each of two numbers is at most the lower one
-pub below_fewer : (a b r x : ℕ) → (r < b → r ≡ a) → x ≤ a → x ≤ b → x ≤ r
-below_fewer a b r x e p q = go (dec_lt r b)
-  where
-    go : Dec (r < b) → x ≤ r
-    go (yes l) = omega (arith, e l)
-    go (no l) = omega arith
+  unfolding crashes_before table_count
+  sum_start = omega (arith, before_start, ap table_count table_start)
 
 pub sum_goes_on : (k count sum : ℕ) → (ltb k count && leb sum max_crashes) ≡ true → (k < count) × (sum ≤ max_crashes)
 sum_goes_on k count sum = go (ltb k count) (leb sum max_crashes) refl refl
@@ -184,36 +144,34 @@ module _ (image buffer : List ℕ) (good : GoodOps (length image) buffer) (k : �
       )
 
   -- at a point up to which the sum is not more than the most: the table has room for an entry, and few images
-  pub point_fits : {words values : List ℕ} {size : Size} → IsTable (table_at image (ops_of buffer) k) words values size
+  pub point_fits : {t : List Entry} → t ≡ table_at image (ops_of buffer) k
       → k ≤ length (ops_of buffer) → crashes_before image (ops_of buffer) (suc k) ≤ max_crashes
-      → (size.len < table_room) × (size.images ≤ max_crashes)
+      → (length t < table_room) × (table_count t ≤ max_crashes)
   unfolding crashes_before
-  point_fits i h m = (
-    omega (arith, table_len i, table_fits (length image) image (ops_of buffer) good.each k h m),
-    omega (arith, i.images),
+  point_fits e h m = (
+    rw e (table_fits (length image) image (ops_of buffer) good.each k h m),
+    rw e (omega arith),
   )
 
   -- and at the next one at most twice as many
-  pub next_fits : {words values : List ℕ} {size : Size}
-      → IsTable (table_at image (ops_of buffer) (k + 1)) words values size
+  pub next_fits : {t : List Entry} → t ≡ table_at image (ops_of buffer) (k + 1)
       → k < length (ops_of buffer) → crashes_before image (ops_of buffer) (suc k) ≤ max_crashes
-      → size.images ≤ 2 * max_crashes
+      → table_count t ≤ 2 * max_crashes
   unfolding crashes_before
-  next_fits i h m =
-      omega (arith, rw (add-one k) at i.images, count_step (length image) image (ops_of buffer) good.each k h)
+  next_fits e h m =
+      rw (e, add-one k) (omega (arith, count_step (length image) image (ops_of buffer) good.each k h))
 
   -- one op more, and the flushes after it that change nothing
-  pub sum_turn : {words values : List ℕ} {size : Size} (sum end next : ℕ)
-      → sum ≡ crashes_before image (ops_of buffer) (suc k)
-      → IsTable (table_at image (ops_of buffer) (k + 1)) words values size
-      → NextChange (ops_of buffer) (k + 1) end size.len next
-      → sum + (size.images + (next - k - 1)) ≡ crashes_before image (ops_of buffer) (suc next)
+  pub sum_turn : {t : List Entry} (sum end next : ℕ)
+      → sum ≡ crashes_before image (ops_of buffer) (suc k) → t ≡ table_at image (ops_of buffer) (k + 1)
+      → NextChange (ops_of buffer) (k + 1) end (length t) next
+      → sum + (table_count t + (next - k - 1)) ≡ crashes_before image (ops_of buffer) (suc next)
   unfolding crashes_before
-  sum_turn sum end next e i n =
+  sum_turn {t} sum end next e i n =
       omega (
         arith,
-        rw (add-one k) at (idle_before image (ops_of buffer) (k + 1) end next i n),
-        (idle_table image (ops_of buffer) (k + 1) end next i n).images,
+        rw (add-one k) at (idle_before image (ops_of buffer) (k + 1) end next t i n),
+        ap table_count (idle_table image (ops_of buffer) (k + 1) end next t i n),
         n.next.above,
       )
 
@@ -234,44 +192,41 @@ module _ (image buffer : List ℕ) (good : GoodOps (length image) buffer) (k : �
           e ∙ rw z (total_by_steps image (ops_of buffer) good.each)
 
   -- the number is not one of this point: there is a next one
-  pub find_goes_on : {words values : List ℕ} {size : Size} (i left : ℕ)
+  pub find_goes_on : {t : List Entry} (i left : ℕ)
       → i ≡ crashes_before image (ops_of buffer) k + left
-      → IsTable (table_at image (ops_of buffer) k) words values size → k ≤ length (ops_of buffer)
+      → t ≡ table_at image (ops_of buffer) k → k ≤ length (ops_of buffer)
       → i < total image (ops_of buffer)
-      → size.images ≤ left → k < length (ops_of buffer)
+      → table_count t ≤ left → k < length (ops_of buffer)
   unfolding crashes_before
   find_goes_on i left e t h l m = go (ltb k (length (ops_of buffer))) refl
     where
       go : (b : Bool) → ltb k (length (ops_of buffer)) ≡ b → k < length (ops_of buffer)
       go true p = ltb-true k (length (ops_of buffer)) p
       go false p = let z : k ≡ length (ops_of buffer) = omega (arith, ltb-false k (length (ops_of buffer)) p) in
-          absurd (omega (arith, t.images, rw (← z) at (total_by_steps image (ops_of buffer) good.each)))
+          absurd (omega (arith, ap table_count t, rw (← z) at (total_by_steps image (ops_of buffer) good.each)))
 
-  pub find_turn : {words values words' values' : List ℕ} {size size' : Size} (i left end next : ℕ)
+  pub find_turn : {t t' : List Entry} (i left end next : ℕ)
       → i ≡ crashes_before image (ops_of buffer) k + left
-      → IsTable (table_at image (ops_of buffer) k) words values size → size.images ≤ left
-      → IsTable (table_at image (ops_of buffer) (k + 1)) words' values' size'
-      → NextChange (ops_of buffer) (k + 1) end size'.len next → end ≤ k + 1 + (left - size.images)
-      → i ≡ crashes_before image (ops_of buffer) next + (left - size.images - (next - k - 1))
+      → t ≡ table_at image (ops_of buffer) k → table_count t ≤ left
+      → t' ≡ table_at image (ops_of buffer) (k + 1)
+      → NextChange (ops_of buffer) (k + 1) end (length t') next → end ≤ k + 1 + (left - table_count t)
+      → i ≡ crashes_before image (ops_of buffer) next + (left - table_count t - (next - k - 1))
   unfolding crashes_before
-  find_turn i left end next e t m t' n l =
+  find_turn {t' = t'} i left end next e t m q n l =
       omega (
         arith,
-        t.images,
-        rw (add-one k) at (idle_before image (ops_of buffer) (k + 1) end next t' n),
+        ap table_count t,
+        rw (add-one k) at (idle_before image (ops_of buffer) (k + 1) end next t' q n),
         n.next.above,
         n.next.below,
       )
 
-  pub found : {words values : List ℕ} {size : Size} (i left : ℕ) → i ≡ crashes_before image (ops_of buffer) k + left
-      → IsTable (table_at image (ops_of buffer) k) words values size → k ≤ length (ops_of buffer)
-      → i < total image (ops_of buffer)
-      → total image (ops_of buffer) ≤ max_crashes → left < size.images
-      → Finds image (ops_of buffer) i (record { point = k; choice = left; len = size.len }) words values
-  found i left e t h l m c = record {
+  pub found : {t : List Entry} (i left : ℕ) → i ≡ crashes_before image (ops_of buffer) k + left
+      → t ≡ table_at image (ops_of buffer) k → k ≤ length (ops_of buffer) → left < table_count t
+      → Finds image (ops_of buffer) i (record { point = k; choice = left }) t
+  found i left e t h c = record {
     point = h;
-    choice = omega (arith, t.images);
+    choice = omega (arith, ap table_count t);
     number = e;
-    table = t.entries;
-    len = (point_fits t h (omega (arith, before_total h))).0;
+    table = t;
   }

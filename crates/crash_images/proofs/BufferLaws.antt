@@ -12,7 +12,8 @@ use borrow.Author.Tests.{ltb-true, eq-eqb, ne_eqb}
 use Rattle.device.specs.Ops.{store, flush}
 use Rattle.crash_images.specs.CrashImages.{op_ok}
 use Rattle.device.specs.ReadOps.{op_of, ops_of, first_other}
-use Rattle.crash_images.specs.InnerSteps.{Entry, entry, op_at, newest_step, newest_at, flushed_step, flushed_at, in_table, without, table_at, StoresIn, GoodOps}
+use Rattle.crash_images.specs.declared.Entry.{Entry}
+use Rattle.crash_images.specs.InnerSteps.{entry, op_at, newest_step, newest_at, flushed_step, flushed_at, in_table, without, table_at, StoresIn, GoodOps}
 
 none_some : {k : ℕ} → some k ≡ none → ⊥
 none_some e = let z : ◌≡◌ {A = ℕ} 0 1 = cc in omega arith

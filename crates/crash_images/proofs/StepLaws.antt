@@ -13,7 +13,8 @@ use Rattle.device.specs.Ops.{Op, store, flush}
 use Rattle.device.specs.Crash.{Device, newest, settled, push, within, carry_op, carry, power_up}
 use Rattle.device.proofs.CrashLaws.{carry_append}
 use Rattle.crash_images.specs.CrashImages.{holds, add_choice, choices_of, choices, columns, ways_of, way_of, count_at, image_at, point_of}
-use Rattle.crash_images.specs.InnerSteps.{Entry, entry, op_at, newest_step, newest_at, flushed_step, flushed_at, in_table, without, entries_of, values_of, table_step, table_at, table_count, words_by, StoresIn}
+use Rattle.crash_images.specs.declared.Entry.{Entry}
+use Rattle.crash_images.specs.InnerSteps.{entry, op_at, newest_step, newest_at, flushed_step, flushed_at, in_table, without, entries_of, values_of, table_step, table_at, table_count, words_by, StoresIn}
 
 -- one op more
 pub point_suc : (image : List ℕ) (os : List Op) (k : ℕ) → k < length os

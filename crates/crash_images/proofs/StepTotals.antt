@@ -1,17 +1,19 @@
 -- The steps' sums: all crashes, the crash of a number, and how long a table can grow.
 use mathlib.Core.Path.{◌≡◌, refl, sym, ◌∙◌, ap}
-use mathlib.Core.List.{List, [], ◌∷◌}
+use mathlib.Core.List.{List, [], ◌∷◌, ◌++◌, reverse}
 use mathlib.Core.Bool.{Bool, true, false, cond, ◌||◌}
 use Prim.Native.Nat.{ℕ, zero, suc, ◌+◌, ◌-◌, ◌*◌, ◌≤◌, ◌<◌}
 use native.Mathlib.Omega.{arith}
 use native.Mathlib.Nat.{mul-zero, mul-le-mul, mul-add, add-mul}
-use lib.ListN.{length, get_or, take}
+use lib.ListN.{length, take, drop, take-append-drop}
+use Rattle.std.proofs.lemmas.List.{take-take, reverse-append}
 use lib.Dec.{ltb, eqb}
-use borrow.Author.Tests.{ltb-true, ltb-false, lt-ltb, le-ltb, eq-eqb, ne_eqb, eqb-true, eqb-false}
+use borrow.Author.Tests.{ltb-true, ltb-false, lt-ltb, le-ltb, eq-eqb, ne_eqb}
 use Rattle.device.specs.Ops.{Op, store, flush}
 use Rattle.device.specs.Crash.{Device, within, carry_op, carry, power_up}
 use Rattle.crash_images.specs.CrashImages.{count_at, total_of, total, Crash, later, crash_of, crash_number, image_left}
-use Rattle.crash_images.specs.InnerSteps.{Entry, entry, op_at, flushed_at, in_table, without, entries_of, table_step, table_at, table_count, crashes_before, words_by, entries_in, StoresIn}
+use Rattle.crash_images.specs.declared.Entry.{Entry}
+use Rattle.crash_images.specs.InnerSteps.{entry, op_at, flushed_at, in_table, without, entries_of, table_step, table_at, table_count, crashes_before, words_by, StoresIn}
 use Rattle.crash_images.proofs.StepLaws.{prod, Rest, prod_at, factor, Inside, end, and, count_prod, inside_without, inside_at, count_by_steps, image_by_steps}
 
 -- the sum of g below k
@@ -160,39 +162,38 @@ pub count_without : (n f c : ℕ) {t : List Entry} → Inside n t → table_coun
 count_without n f c {t} i = rw (count_prod n (inside_without n f c i), count_prod n i)
     (prod_below (factor (without f c t)) (factor t) 0 n (λ w. omega (arith, entries_without f c w t)))
 
--- the first entries of a table have no more images than all of them
-pub inside_one : {n : ℕ} {e : Entry} {t : List Entry} → Inside n (e ∷ t) → (e.word < n) × Inside n t
-inside_one (and h i) = (h, i)
+-- the oldest entries of a table have no more images than all of them
+inside_tail : {n : ℕ} (newer t : List Entry) → Inside n (newer ++ t) → Inside n t
+inside_tail [] t i = i
+inside_tail (e ∷ newer) t (and h i) = inside_tail newer t i
 
-module _ (n : ℕ) (words values : List ℕ) where
-  pub count_first : (len : ℕ) → Inside n (entries_in words values len) → (j : ℕ) → j ≤ len
-      → Inside n (entries_in words values j)
-      × (table_count (entries_in words values j) ≤ table_count (entries_in words values len))
-  unfolding entries_in
-  count_first zero i j h = let z : j ≡ 0 = omega arith in rw z (i, omega arith)
-  count_first (suc len) i j h = go (eqb j (suc len)) refl (count_first len (inside_one i).1 j)
-    where
-      go : (b : Bool) → eqb j (suc len) ≡ b
-          → (j ≤ len
-          → Inside n (entries_in words values j)
-          × (table_count (entries_in words values j) ≤ table_count (entries_in words values len)))
-          → Inside n (entries_in words values j)
-          × (table_count (entries_in words values j) ≤ table_count (entries_in words values (suc len)))
-      go true e r = rw (eqb-true j (suc len) e) (i, omega arith)
-      go false e r = let ne = eqb-false j (suc len) e in
-          let p = r (omega arith) in (
-            p.0,
-            omega (
-              arith,
-              p.1,
-              (count_grows n (entry (get_or words len 0) (get_or values len 0)) (entries_in words values len)
-                  (inside_one i).0 (inside_one i).1).0,
-            ),
-          )
+count_tail : (n : ℕ) (newer t : List Entry) → Inside n (newer ++ t) → table_count t ≤ table_count (newer ++ t)
+count_tail n [] t i = omega arith
+count_tail n (e ∷ newer) t (and h i) =
+    omega (arith, count_tail n newer t i, (count_grows n e (newer ++ t) h i).0)
 
-  pub count_kept : (f c len : ℕ) → Inside n (entries_in words values len) → (j : ℕ) → j ≤ len
-      → table_count (without f c (entries_in words values j)) ≤ table_count (entries_in words values len)
-  count_kept f c len i j h = let p = count_first len i j h in omega (arith, count_without n f c p.0, p.1)
+-- every table's words are below some number
+inside_more : {n m : ℕ} {t : List Entry} → n ≤ m → Inside n t → Inside m t
+inside_more l end = end
+inside_more l (and h i) = and (omega arith) (inside_more l i)
+
+inside_some : (t : List Entry) → (n : ℕ) × Inside n t
+inside_some [] = (0, end)
+inside_some (e ∷ t) =
+    let s = inside_some t in
+    (suc (e.word + s.0), and (omega arith) (inside_more (omega arith) s.1))
+
+-- what a flush leaves of the first j entries of a slice has no more images than its first len ones
+pub count_kept : (f c : ℕ) (xs : List Entry) (j len : ℕ) → j ≤ len
+    → table_count (without f c (reverse (take j xs))) ≤ table_count (reverse (take len xs))
+count_kept f c xs j len h =
+    let newer = reverse (drop j (take len xs)) in
+    let older = reverse (take j xs) in
+    let e : reverse (take len xs) ≡ newer ++ older =
+    ap reverse (sym (take-append-drop j (take len xs)))
+    ∙ rw (take-take j len xs h) (reverse-append (take j xs) (drop j (take len xs))) in
+    let s = inside_some (newer ++ older) in
+    rw e (omega (arith, count_without s.0 f c (inside_tail newer older s.1), count_tail s.0 newer older s.1))
 
 short_without : (f c : ℕ) (t : List Entry) → length (without f c t) ≤ length t
 unfolding without

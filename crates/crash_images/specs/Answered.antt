@@ -1,10 +1,9 @@
--- What a call about crash images answers, as a reply.
-use Rattle.std.specs.Prelude.{ℕ}
+-- What a call about crash images answers, a number or why it declines, as a reply.
+use Rattle.std.specs.Prelude.{ℕ, Result, Ok, Err}
 use Rattle.refusal.specs.Tests.{Reply, ok, refused}
 use Rattle.refusal.specs.Refusals.{why_of}
-use Rattle.crash_images.specs.declared.CrashAnswer.{CrashAnswer}
-use Rattle.crash_images.specs.declared.CrashAnswer.TheVariants.{Number, Refused}
+use Rattle.refusal.specs.declared.Refusal.{Refusal}
 
-abbrev pub answered : CrashAnswer → Reply ℕ
-answered (Number n) = ok n
-answered (Refused r) = refused (why_of r)
+abbrev pub answered : Result ℕ Refusal → Reply ℕ
+answered (Ok n) = ok n
+answered (Err r) = refused (why_of r)

@@ -4,13 +4,11 @@
 -- value is not the table's last.
 -- Cites CrashImages.antt, and Crash.antt and Ops.antt of device.
 use Rattle.std.specs.Prelude.{◌≡◌, List, [], ◌∷◌, ◌++◌, Bool, false, cond, ◌&&◌, ◌||◌, ℕ, zero, suc, ◌+◌, ◌*◌, ◌/◌, ◌%◌, ◌<◌, length, get_or, eqb}
+use Rattle.std.specs.Coded.{Unit-prop, le_prop}
 use Rattle.device.specs.Ops.{Op, store, flush}
 use Rattle.device.specs.Crash.{within}
 use Rattle.device.specs.ReadOps.{ops_of}
-
-pub record Entry : Type 0 where
-  pub word : ℕ
-  pub value : ℕ
+use Rattle.crash_images.specs.declared.Entry.{Entry}
 
 abbrev pub entry : ℕ → ℕ → Entry
 entry w v = record { word = w; value = v }
@@ -79,15 +77,15 @@ words_by flushed t w (suc count) m =
     get_or (flushed w ∷ values_of w t) (m % (1 + entries_of w t)) 0
     ∷ words_by flushed t (suc w) count (m / (1 + entries_of w t))
 
--- the first len entries of a table in two slices, the newest first
-unfoldable pub entries_in : List ℕ → List ℕ → ℕ → List Entry
-entries_in words values zero = []
-entries_in words values (suc len) = entry (get_or words len 0) (get_or values len 0) ∷ entries_in words values len
-
 -- a store to a word of an image of n words, or a flush
 abbrev pub StoresIn : ℕ → Op → Type 0
 StoresIn n (store x v) = x < n
 StoresIn n (flush f c) = Unit {0}
+
+-- it holds in one way
+pub StoresIn-prop : (n : ℕ) (o : Op) → IsProp (StoresIn n o)
+StoresIn-prop n (store x v) = le_prop
+StoresIn-prop n (flush f c) = Unit-prop
 
 -- no op is bad: whole groups, and stores to words of the image
 pub record GoodOps (n : ℕ) (buffer : List ℕ) : Type 0 where

@@ -1,185 +1,126 @@
--- A table in two slices, changed: an entry put or not, and the entries that a flush leaves.
+-- A table in a slice, the oldest entry first: what is counted and found in it, an entry put, and what a flush leaves.
 -- Cites InnerTable.antt, and InnerSteps.antt of crash_images.
-use mathlib.Core.Path.{◌≡◌, refl, sym, ◌∙◌, subst, ap}
-use mathlib.Core.Bool.{Bool, true, false, cond, ◌||◌}
-use mathlib.Core.List.{List, ◌∷◌}
-use Prim.Native.Nat.{ℕ, ◌+◌, ◌-◌, ◌*◌, ◌≤◌, ◌<◌}
+use mathlib.Core.Path.{◌≡◌, refl, sym, ◌∙◌, ap}
+use mathlib.Core.Bool.{Bool, true, false, cond, ◌&&◌}
+use mathlib.Core.List.{List, [], ◌∷◌, reverse}
+use Prim.Native.Nat.{ℕ, suc, ◌+◌, ◌≤◌, ◌<◌}
 use native.Mathlib.Omega.{arith}
-use native.Mathlib.Nat.{mul-le-mul, div-le_self}
-use lib.ListN.{length, get_or}
+use lib.ListN.{length, get_or, set, take, length-set, length-take, length-reverse}
 use lib.Seq.{get_or-set_other}
-use lib.Dec.{ltb, eqb}
-use borrow.Author.Tests.{ltb-true, ltb-false, lt-ltb, le-ltb, le-leb, lt-leb}
+use lib.Dec.{eqb}
+use borrow.Author.Tests.{eqb-true, eqb-false, eq-eqb, ne_eqb}
+use Rattle.std.proofs.lemmas.List.{length-take-le}
+use Rattle.std.specs.List.{count_by, list_any}
+use Rattle.std.proofs.lemmas.List.Recursion.{is_count_by}
+use Rattle.std.proofs.lemmas.List.Sums.{count_by-le-length}
+use Rattle.std.proofs.lemmas.List.Sorted.{sum_by-IsPermutation, list_any-IsPermutation, IsPermutation-reverse}
 use Rattle.device.specs.Crash.{within}
-use Rattle.device.specs.ReadOps.{ops_of}
-use Rattle.crash_images.specs.InnerSteps.{Entry, entry, entries_in, in_table, without, table_at, flushed_at, table_count, GoodOps}
-use Rattle.crash_images.proofs.TableLaws.{entries_put, kept_turn}
-use Rattle.crash_images.proofs.BufferLaws.{ops_long, table_stored, table_flushed}
-use Rattle.crash_images.proofs.StepLaws.{inside_at}
+use Rattle.crash_images.specs.declared.Entry.{Entry}
+use Rattle.crash_images.specs.InnerSteps.{entry, entries_of, in_table, without, table_count}
+use Rattle.crash_images.proofs.TableLaws.{newest_turn, newest_put}
 use Rattle.crash_images.proofs.StepTotals.{count_kept}
-use Rattle.crash_table.specs.declared.Size.{Size}
-use Rattle.crash_table.specs.InnerTable.{IsTable, more_images, PutsEntry, Stays, PutsUnless}
+use Rattle.crash_table.specs.InnerTable.{more_images}
 
--- the images of one entry more fit
-pub more_fits : (images c : ℕ) → images ≤ 4096 → c ≤ 90 → more_images images c ≤ 4096 * 92
-more_fits images c h k =
-    let p = div-le_self images (1 + c) in
-    mul-le-mul {n₂ = 4096} {m₂ = 92} (omega arith) (omega arith)
-
--- a flush covers a word, by the difference of their numbers
-pub covers_from : (first count w : ℕ) → first ≤ w → ltb (w - first) count ≡ within first count w
-covers_from first count w h = rw (le-leb first w h) (go (ltb (w - first) count) refl)
+pub eqb_swap : (a b : ℕ) → eqb a b ≡ eqb b a
+eqb_swap a b = go (eqb b a) refl
   where
-    go : (b : Bool) → ltb (w - first) count ≡ b → b ≡ ltb w (first + count)
-    go true e = sym (lt-ltb w (first + count) (omega (arith, ltb-true (w - first) count e)))
-    go false e = sym (le-ltb w (first + count) (omega (arith, ltb-false (w - first) count e)))
+    go : (c : Bool) → eqb b a ≡ c → eqb a b ≡ c
+    go true e = eq-eqb a b (sym (eqb-true b a e))
+    go false e = ne_eqb a b (λ z. eqb-false b a e (sym z))
 
-pub covers_not : (first count w : ℕ) → w < first → false ≡ within first count w
-covers_not first count w h = rw (lt-leb first w h)
+-- a count does not depend on the order
+pub count_is : (w : ℕ) (xs : List Entry) → count_by (λ e. eqb e.word w) xs ≡ entries_of w (reverse xs)
+unfolding entries_of
+count_is w xs =
+    sym (sum_by-IsPermutation (λ e. cond (eqb e.word w) 1 0) xs (reverse xs) (IsPermutation-reverse xs))
+    ∙ sym (is_count_by (entries_of w) (λ e. eqb e.word w) refl step (reverse xs))
+  where
+    more : (b : Bool) (n : ℕ) → cond b (suc n) n ≡ cond b (1 + n) n
+    more true n = omega arith
+    more false n = refl
 
-module _ (w v : ℕ) {size r : Size} {words words' values values' : List ℕ} where
-  pub dropped : {b : Bool} → b ≡ true → Stays size r words words' values values'
-      → PutsUnless b w v size r words words' values values'
-  dropped e s = subst (λ (x : Bool). PutsUnless x w v size r words words' values values') (sym e) s
+    step : (e : Entry) (t : List Entry)
+        → entries_of w (e ∷ t) ≡ cond (eqb e.word w) (1 + entries_of w t) (entries_of w t)
+    step e t = rw (eqb_swap w e.word) (more (eqb e.word w) (entries_of w t))
 
-  pub put : {b : Bool} → b ≡ false → PutsEntry w v size r words words' values values'
-      → PutsUnless b w v size r words words' values values'
-  put e s = subst (λ (x : Bool). PutsUnless x w v size r words words' values values') (sym e) s
+pub count_below : (w n : ℕ) (xs : List Entry) → count_by (λ e. eqb e.word w) (take n xs) ≤ n
+count_below w n xs = omega (arith, count_by-le-length (λ (e : Entry). eqb e.word w) (take n xs), length-take n xs)
 
-  -- the table after it
-  pub put_table : (t : List Entry) → IsTable t words values size → size.len < length words → size.len < length values
-      → PutsEntry w v size r words words' values values' → IsTable (entry w v ∷ t) words' values' r
-  unfolding table_count
-  put_table t i h k p = record {
-    entries = rw (p.word, p.value, p.len)
-        (entries_put words values size.len w v h k ∙ ap (λ (x : List Entry). entry w v ∷ x) i.entries);
-    images = p.images ∙ rw (i.entries, i.images);
-  }
+-- nor does whether an entry is there
+pub found_is : (e : Entry) (xs : List Entry)
+    → list_any (λ x. eqb x.word e.word && eqb x.value e.value) xs ≡ in_table e.word e.value (reverse xs)
+unfolding in_table
+found_is e xs =
+    list_any-IsPermutation (λ x. eqb x.word e.word && eqb x.value e.value) xs (reverse xs) (IsPermutation-reverse xs)
+    ∙ same (reverse xs)
+  where
+    same : (t : List Entry)
+        → list_any (λ x. eqb x.word e.word && eqb x.value e.value) t ≡ in_table e.word e.value t
+    same [] = refl
+    same (x ∷ t) = rw (eqb_swap x.word e.word, eqb_swap x.value e.value, same t)
 
-  pub unless_table : (b : Bool) (t : List Entry) → IsTable t words values size → size.len < length words
-      → size.len < length values → PutsUnless b w v size r words words' values values'
-      → IsTable (cond b t (entry w v ∷ t)) words' values' r
-  unless_table true t i h k p = record {
-    entries = rw (p.word, p.value, p.same) i.entries;
-    images = rw p.same i.images;
-  }
-  unless_table false t i h k p = put_table t i h k p
+-- a table has as many entries as it says
+pub newest_length : (xs : List Entry) (len : ℕ) → len ≤ length xs → length (reverse (take len xs)) ≡ len
+newest_length xs len h = length-reverse (take len xs) ∙ length-take-le len xs h
+
+-- the images of one entry more
+pub put_images : (xs : List Entry) (len : ℕ) (e : Entry) (images c r : ℕ) → len < length xs
+    → images ≡ table_count (reverse (take len xs)) → c ≡ entries_of e.word (reverse (take len xs))
+    → r ≡ more_images images c → r ≡ table_count (reverse (take (len + 1) (set xs len e)))
+unfolding table_count
+put_images xs len e images c r h i k p = p ∙ rw (newest_put xs len e h, i, k)
 
 -- after j entries looked at: what a flush leaves of them is in front, and those after them are as they were
-pub record Kept (first count : ℕ) (words₀ values₀ : List ℕ) (j : ℕ) (words values : List ℕ) (size : Size) : Type 0 where
-  pub table : IsTable (without first count (entries_in words₀ values₀ j)) words values size
-  pub short : size.len ≤ j
-  pub word : (i : ℕ) → j ≤ i → get_or words i 0 ≡ get_or words₀ i 0
-  pub value : (i : ℕ) → j ≤ i → get_or values i 0 ≡ get_or values₀ i 0
+pub record Kept (first count : ℕ) (old : List Entry) (j : ℕ) (xs : List Entry) (kept made : ℕ) : Type 0 where
+  pub table : reverse (take kept xs) ≡ without first count (reverse (take j old))
+  pub images : made ≡ table_count (reverse (take kept xs))
+  pub short : kept ≤ j
+  pub long : length xs ≡ length old
+  pub rest : (i : ℕ) → j ≤ i → get_or xs i (entry 0 0) ≡ get_or old i (entry 0 0)
 
-pub kept_first : (first count : ℕ) (words values : List ℕ)
-    → Kept first count words values 0 words values (record { len = 0; images = 1 })
-unfolding entries_in without table_count
-kept_first first count words values = record {
-  table = record { entries = refl; images = refl };
+pub kept_first : (first count : ℕ) (xs : List Entry) → Kept first count xs 0 xs 0 1
+unfolding without table_count
+kept_first first count xs = record {
+  table = refl;
+  images = refl;
   short = omega arith;
-  word = λ i h. refl;
-  value = λ i h. refl;
+  long = refl;
+  rest = λ i h. refl;
 }
 
-pub kept_next : (first count : ℕ) (words₀ values₀ : List ℕ) (j : ℕ) {words words' values values' : List ℕ}
-    {size r : Size}
-    → Kept first count words₀ values₀ j words values size → j < length words → j < length values
-    → PutsUnless (within first count (get_or words j 0)) (get_or words j 0) (get_or values j 0) size r words words'
-    values
-    values'
-    → Kept first count words₀ values₀ (j + 1) words' values' r
-kept_next first count words₀ values₀ j {words} {words'} {values} {values'} {size} {r} k hw hv p =
-    go (within first count (get_or words j 0)) refl p
-  where
-    s : size.len ≤ j
-    s = k.short
+module _ (first count : ℕ) (old : List Entry) (j : ℕ) {xs : List Entry} {kept images : ℕ}
+    (k : Kept first count old j xs kept images) (h : j < length xs) where
+  pub kept_skips : within first count (get_or xs j (entry 0 0)).word ≡ true
+      → Kept first count old (j + 1) xs kept images
+  unfolding without
+  kept_skips e = record {
+    table = rw (newest_turn old j (entry 0 0) (omega (arith, k.long)), rw (k.rest j (omega arith)) at e) k.table;
+    images = k.images;
+    short = omega (arith, k.short);
+    long = k.long;
+    rest = λ i l. k.rest i (omega arith);
+  }
 
-    t : List Entry
-    t = without first count (entries_in words₀ values₀ j)
+  pub kept_puts : (c r : ℕ) → within first count (get_or xs j (entry 0 0)).word ≡ false
+      → c ≡ entries_of (get_or xs j (entry 0 0)).word (reverse (take kept xs)) → r ≡ more_images images c
+      → Kept first count old (j + 1) (set xs kept (get_or xs j (entry 0 0))) (kept + 1) r
+  unfolding without
+  kept_puts c r e p q = record {
+    table = rw (
+      newest_put xs kept (get_or xs j (entry 0 0)) (omega (arith, k.short)),
+      newest_turn old j (entry 0 0) (omega (arith, k.long)),
+      rw (k.rest j (omega arith)) at e,
+      k.rest j (omega arith),
+      k.table,
+    );
+    images = put_images xs kept (get_or xs j (entry 0 0)) images c r (omega (arith, k.short)) k.images p q;
+    short = omega (arith, k.short);
+    long = length-set xs kept (get_or xs j (entry 0 0)) ∙ k.long;
+    rest = λ i l.
+        get_or-set_other xs kept i (get_or xs j (entry 0 0)) (entry 0 0) (λ z. omega (arith, k.short))
+        ∙ k.rest i (omega arith);
+  }
 
-    turned : (b : Bool) → within first count (get_or words j 0) ≡ b
-        → PutsUnless b (get_or words j 0) (get_or values j 0) size r words words' values values'
-        → IsTable (without first count (entries_in words₀ values₀ (j + 1))) words' values' r
-    turned b e q = subst (λ (x : List Entry). IsTable x words' values' r)
-        (kept_turn words₀ values₀ first count j _ _ refl
-        (rw (← k.word j (omega arith), ← k.value j (omega arith), e)))
-        (unless_table (get_or words j 0) (get_or values j 0) b (without first count (entries_in words₀ values₀ j))
-        k.table
-        (omega (arith, k.short)) (omega (arith, k.short)) q)
-
-    go : (b : Bool) → within first count (get_or words j 0) ≡ b
-        → PutsUnless b (get_or words j 0) (get_or values j 0) size r words words' values values'
-        → Kept first count words₀ values₀ (j + 1) words' values' r
-    go true e q = record {
-      table = turned true e q;
-      short = rw q.same (omega (arith, k.short));
-      word = λ i h. rw q.word (k.word i (omega arith));
-      value = λ i h. rw q.value (k.value i (omega arith));
-    }
-    go false e q = record {
-      table = turned false e q;
-      short = omega (arith, q.len, k.short);
-      word = λ i h. rw q.word (get_or-set_other words size.len i (get_or words j 0) 0 (λ z. omega (arith, k.short))
-          ∙ k.word i (omega arith));
-      value = λ i h. rw q.value
-          (get_or-set_other values size.len i (get_or values j 0) 0 (λ z. omega (arith, k.short))
-          ∙ k.value i (omega arith));
-    }
-
--- either of two tests, or neither
-pub first_true : {a : Bool} (b : Bool) → a ≡ true → (a || b) ≡ true
-first_true b e = rw e
-
-pub second_true : {a b : Bool} → a ≡ false → b ≡ true → (a || b) ≡ true
-second_true e f = rw (e, f)
-
-pub neither_true : {a b : Bool} → a ≡ false → b ≡ false → (a || b) ≡ false
-neither_true e f = rw (e, f)
-
--- the table after op k, a store or a flush
-module _ (image buffer : List ℕ) (k : ℕ) (size r : Size) (words words' values values' : List ℕ)
-    (h : k * 3 + 3 ≤ length buffer) (i : IsTable (table_at image (ops_of buffer) k) words values size) where
-  pub store_table : (flushed : ℕ) → size.len < length words → size.len < length values
-      → get_or buffer (k * 3) 0 ≡ 1 → flushed ≡ flushed_at image (ops_of buffer) k (get_or buffer (k * 3 + 1) 0)
-      → PutsUnless
-      (eqb (get_or buffer (k * 3 + 2) 0) flushed
-      || in_table (get_or buffer (k * 3 + 1) 0) (get_or buffer (k * 3 + 2) 0) (entries_in words values size.len))
-      (get_or buffer (k * 3 + 1) 0) (get_or buffer (k * 3 + 2) 0) size r words words' values values'
-      → IsTable (table_at image (ops_of buffer) (k + 1)) words' values' r
-  store_table flushed hw hv tag f p = subst (λ (x : List Entry). IsTable x words' values' r)
-      (table_stored image buffer k t
-      (cond (eqb v flushed || in_table w v (entries_in words values size.len)) t (entry w v ∷ t)) flushed h refl tag f
-      (rw i.entries))
-      (unless_table w v (eqb v flushed || in_table w v (entries_in words values size.len)) t i hw hv p)
-    where
-      w : ℕ
-      w = get_or buffer (k * 3 + 1) 0
-
-      v : ℕ
-      v = get_or buffer (k * 3 + 2) 0
-
-      t : List Entry
-      t = table_at image (ops_of buffer) k
-
-  pub flush_table : (get_or buffer (k * 3) 0 ≡ 1 → ⊥)
-      → IsTable (without (get_or buffer (k * 3 + 1) 0) (get_or buffer (k * 3 + 2) 0) (entries_in words values size.len))
-      words' values' r
-      → IsTable (table_at image (ops_of buffer) (k + 1)) words' values' r
-  flush_table tag p = subst (λ (x : List Entry). IsTable x words' values' r)
-      (table_flushed image buffer k (table_at image (ops_of buffer) k)
-      (without (get_or buffer (k * 3 + 1) 0) (get_or buffer (k * 3 + 2) 0) (entries_in words values size.len)) h refl
-      tag
-      (rw i.entries)) p
-
-  -- a flush leaves tables of no more images
-  pub flush_fits : GoodOps (length image) buffer → size.images ≤ 4096 → (first count j : ℕ) → j ≤ size.len
-      → table_count (without first count (entries_in words values j)) ≤ 4096
-  flush_fits good m first count j l =
-      let inside = inside_at (length image) image (ops_of buffer) good.each k (omega (arith, ops_long buffer k h)) in
-      omega (
-        arith,
-        i.images,
-        ap table_count i.entries,
-        count_kept (length image) words values first count size.len (rw i.entries inside) j l,
-      )
+  -- few images so far
+  pub kept_few : (len : ℕ) → j ≤ len → table_count (reverse (take len old)) ≤ 4096 → images ≤ 4096
+  kept_few len l m = omega (arith, k.images, ap table_count k.table, count_kept first count old j len l)

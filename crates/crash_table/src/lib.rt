@@ -1,16 +1,18 @@
-// The table by which crashes are counted: the values stored since the last flush of their word, the oldest first, without
-// the flushed one and without repeats, in two lent slices. What is flushed is read from the op buffer. The contracts cite
-// specs/InnerSteps.antt of crash_images and specs/InnerTable.antt.
+// The table by which crashes are counted: the values stored since the last flush of their word, without the flushed one
+// and without repeats. What is flushed is read from the op buffer. The contracts cite specs/InnerSteps.antt of
+// crash_images and specs/InnerTable.antt.
 #![tactic(auto)]
 
-ghost use Rattle.std.specs.Prelude.{◌≡◌, true, false, cond, ◌&&◌, ◌||◌, ℕ, suc, ◌+◌, ◌*◌, ◌/◌, ◌≤◌, ◌<◌, eqb, length};
+ghost use Rattle.std.specs.Prelude.{◌≡◌, [], ◌∷◌, cond, ◌||◌, ◌+◌, ◌*◌, ◌/◌, ◌≤◌, ◌<◌, eqb, length, reverse, count_by};
 ghost use Rattle.device.specs.Crash.{within};
-ghost use Rattle.device.specs.Lent.{given, left};
 ghost use Rattle.crash_images.specs.CrashImages.{max_crashes};
 ghost use Rattle.device.specs.ReadOps.{op_of, ops_of};
 ghost use Rattle.crash_images.specs.InnerSteps.{newest_step, flushed_step, newest_at, flushed_at, GoodOps};
-ghost use Rattle.crash_images.specs.InnerSteps.{entries_in, entries_of, in_table, without, table_at, table_count};
-ghost use Rattle.crash_table.specs.InnerTable.{IsTable, PutsEntry, PutsUnless, table_room};
+ghost use Rattle.crash_images.specs.InnerSteps.{in_table, without, table_at, table_count};
+ghost use Rattle.crash_table.specs.InnerTable.{table_room, more_images};
+
+use crash_images::Entry;
+use std::marker::Model;
 
 // The entries that a table has room for: with more of them, there are more than 4,096 crashes.
 pub const TABLE_ROOM: usize = 90;
@@ -22,29 +24,34 @@ pub struct Held {
     pub flushed: u64,
 }
 
+// Whether a flush covers word w.
+fn covers(first: u64, count: u64, w: u64) -> bool
+    ensures { result ≡ within first count w }
+{
+    first <= w && w - first < count
+}
+
 // They after one op.
-fn held_after(h: Held, tag: u64, word: u64, argument: u64, w: u64) -> Held
-    ensures { (result.newest ≡ newest_step (op_of tag word argument) w h.newest)
-        × (result.flushed ≡ flushed_step (op_of tag word argument) w h.newest h.flushed) }
+fn held_after(held: Held, tag: u64, word: u64, argument: u64, w: u64) -> Held
+    ensures { (result.newest ≡ newest_step (op_of tag word argument) w held.newest)
+        × (result.flushed ≡ flushed_step (op_of tag word argument) w held.newest held.flushed) }
 {
     if tag == 1 {
         if w == word {
             return Held {
                 newest: argument,
-                flushed: h.flushed,
+                ..held
             };
         }
-        return h;
+        return held;
     }
-    if word <= w {
-        if w - word < argument {
-            return Held {
-                newest: h.newest,
-                flushed: h.newest,
-            };
-        }
+    if covers(word, argument, w) {
+        return Held {
+            flushed: held.newest,
+            ..held
+        };
     }
-    h
+    held
 }
 
 // They after the first k ops of a buffer.
@@ -53,186 +60,155 @@ pub fn held_at(image: &[u64], ops: &[u64], k: usize, w: usize) -> Held
     ensures { (result.newest ≡ newest_at image.now (ops_of ops.now) k w)
         × (result.flushed ≡ flushed_at image.now (ops_of ops.now) k w) }
 {
-    let mut h = Held {
+    let mut held = Held {
         newest: image[w],
         flushed: image[w],
     };
-    let mut j = 0;
-    while j < k {
+    for j in 0..k {
         let at = j * 3;
-        h = held_after(h, ops[at], ops[at + 1], ops[at + 2], w as u64);
-        j += 1;
+        held = held_after(held, ops[at], ops[at + 1], ops[at + 2], w as u64);
     }
-    h
+    held
 }
 
-// The size of a table: its entries, and how many images they make.
-#[derive(Clone, Copy)]
-pub struct Size {
-    pub len: usize,
-    pub images: u64,
-}
-
-// A count of entries with one more looked at.
-pub fn counted(count: usize, w: u64, word: u64) -> usize
-    requires { count < max_crashes }
-    ensures { result ≡ cond (eqb w word) (suc count) count }
+// How many of the entries are of word w.
+pub fn count_of(entries: &[Entry], w: u64) -> usize
+    ensures { result ≡ count_by (λ e. eqb e.word w) entries.now }
 {
-    if w == word {
-        return count + 1;
-    }
-    count
-}
-
-// How many of the first len entries of a table are of word w.
-pub fn entries_of(words: &[u64], len: usize, w: u64) -> usize
-    requires { (len ≤ length words.now) × (len ≤ max_crashes) }
-    ensures { (result ≡ entries_of w (entries_in words.now words.now len)) × (result ≤ len) }
-{
-    let mut count: usize = 0;
-    let mut j = 0;
-    while j < len {
-        count = counted(count, w, words[j]);
-        j += 1;
-    }
-    count
-}
-
-// Whether an entry is found, with one more looked at.
-fn found_with(found: bool, w: u64, v: u64, word: u64, value: u64) -> bool
-    ensures { result ≡ ((eqb w word && eqb v value) || found) }
-{
-    if w == word {
-        if v == value {
-            return true;
+    let mut count = 0;
+    for entry in entries {
+        if entry.word == w {
+            count += 1;
         }
     }
-    found
+    count
 }
 
-// Whether value v of word w is among the first len entries.
-fn in_table(words: &[u64], values: &[u64], len: usize, w: u64, v: u64) -> bool
-    requires { (len ≤ length words.now) × (len ≤ length values.now) }
-    ensures { result ≡ in_table w v (entries_in words.now values.now len) }
+// How many images there are with one entry more of a word that has c of them.
+fn more_images(images: u64, c: usize) -> u64
+    requires { (images ≤ max_crashes) × (c ≤ table_room) }
+    ensures { result ≡ more_images images c }
 {
-    let mut found = false;
-    let mut j = 0;
-    while j < len {
-        found = found_with(found, w, v, words[j], values[j]);
-        j += 1;
-    }
-    found
+    images / (1 + c as u64) * (2 + c as u64)
 }
 
-// Puts an entry after the others of a table.
-fn put_entry(words: &mut [u64], values: &mut [u64], size: Size, w: u64, v: u64) -> Size
-    requires { (size.len < table_room) × (table_room ≤ length words.old) × (table_room ≤ length values.old)
-        × (size.images ≤ max_crashes) }
-    ensures { PutsEntry w v size result (given words) (left words) (given values) (left values) }
-{
-    let at = size.len;
-    let c = entries_of(words, at, w) as u64;
-    words[at] = w;
-    values[at] = v;
-    Size {
-        len: at + 1,
-        images: size.images / (1 + c) * (2 + c),
-    }
+// A table: its entries, the oldest first, and how many images they make. Clauses see the entries, the newest first.
+#[derive(Drop)]
+pub struct Table {
+    entries: [Entry; TABLE_ROOM],
+    len: usize,
+    images: u64,
 }
 
-// Whether a flush covers word w.
-fn covers(first: u64, count: u64, w: u64) -> bool
-    ensures { result ≡ within first count w }
-{
-    if first <= w {
-        return w - first < count;
-    }
-    false
+impl Model for Table {
+    ghost use Rattle.std.specs.Prelude.{◌≡◌, ◌≤◌, List, take, reverse};
+    ghost use Rattle.crash_images.specs.declared.Entry.{Entry};
+    ghost use Rattle.crash_images.specs.InnerSteps.{table_count};
+    ghost use Rattle.crash_table.specs.InnerTable.{table_room};
+
+    ghost Value = { List Entry };
+
+    ghost view = { λ t. reverse (take t.len t.entries) };
+
+    ghost invariant = { λ t. (t.len ≤ table_room) × (t.images ≡ table_count (reverse (take t.len t.entries))) };
 }
 
-// Puts an entry, unless a flush covers its word.
-fn put_kept(
-    words: &mut [u64],
-    values: &mut [u64],
-    size: Size,
-    first: u64,
-    count: u64,
-    w: u64,
-    v: u64,
-) -> Size
-    requires { (size.len < table_room) × (table_room ≤ length words.old) × (table_room ≤ length values.old)
-        × (size.images ≤ max_crashes) }
-    ensures { PutsUnless (within first count w) w v size result (given words) (left words) (given values) (left values) }
-{
-    if covers(first, count, w) {
-        return size;
+impl Table {
+    // A table without entries.
+    pub fn new() -> Table
+        ensures { result ≡ [] }
+    {
+        Table {
+            entries: [Entry { word: 0, value: 0 }; TABLE_ROOM],
+            len: 0,
+            images: 1,
+        }
     }
-    put_entry(words, values, size, w, v)
-}
 
-// A table after a flush: the entries of other words, put anew from its front.
-fn after_flush(words: &mut [u64], values: &mut [u64], len: usize, first: u64, count: u64) -> Size
-    requires { (len < table_room) × (table_room ≤ length words.old) × (table_room ≤ length values.old)
-        × ((j : ℕ) → j ≤ len → table_count (without first count (entries_in words.old values.old j)) ≤ max_crashes) }
-    ensures { IsTable (without first count (entries_in (given words) (given values) len)) (left words) (left values) result }
-{
-    let mut size = Size { len: 0, images: 1 };
-    let mut j = 0;
-    while j < len {
-        let w = words[j];
-        let v = values[j];
-        size = put_kept(words, values, size, first, count, w, v);
-        j += 1;
+    // How many images there are.
+    pub fn images(&self) -> u64
+        ensures { result ≡ table_count self.now }
+    {
+        self.images
     }
-    size
-}
 
-// A table after a store of v to word w, whose flushed value is known.
-fn after_store(
-    words: &mut [u64],
-    values: &mut [u64],
-    size: Size,
-    w: u64,
-    v: u64,
-    flushed: u64,
-) -> Size
-    requires { (size.len < table_room) × (table_room ≤ length words.old) × (table_room ≤ length values.old)
-        × (size.images ≤ max_crashes) }
-    ensures { PutsUnless (eqb v flushed || in_table w v (entries_in (given words) (given values) size.len)) w v size result
-        (given words) (left words) (given values) (left values) }
-{
-    if v == flushed {
-        return size;
+    // How many entries it has.
+    pub fn len(&self) -> usize
+        ensures { result ≡ length self.now }
+    {
+        self.entries().len()
     }
-    let len = size.len;
-    if in_table(words, values, len, w, v) {
-        return size;
-    }
-    put_entry(words, values, size, w, v)
-}
 
-// The table after k + 1 ops from that after k.
-pub fn table_after(
-    image: &[u64],
-    ops: &[u64],
-    k: usize,
-    words: &mut [u64],
-    values: &mut [u64],
-    size: Size,
-) -> Size
-    requires { GoodOps (length image.now) ops.now × (k * 3 + 3 ≤ length ops.now)
-        × (table_room ≤ length words.old) × (table_room ≤ length values.old)
-        × IsTable (table_at image.now (ops_of ops.now) k) words.old values.old size
-        × (size.len < table_room) × (size.images ≤ max_crashes) }
-    ensures { IsTable (table_at image.now (ops_of ops.now) (k + 1)) (left words) (left values) result }
-{
-    let at = k * 3;
-    let word = ops[at + 1];
-    let argument = ops[at + 2];
-    if ops[at] == 1 {
-        let h = held_at(image, ops, k, word as usize);
-        let flushed = h.flushed;
-        return after_store(words, values, size, word, argument, flushed);
+    // The entries, the oldest first.
+    pub fn entries(&self) -> &[Entry]
+        ensures { reverse result.now ≡ self.now }
+    {
+        &self.entries[..self.len]
     }
-    after_flush(words, values, size.len, word, argument)
+
+    // Puts an entry after the others.
+    fn put(&mut self, entry: Entry)
+        requires { (length self.old < table_room) × (table_count self.old ≤ max_crashes) }
+        ensures { self.new ≡ entry ∷ self.old }
+    {
+        let c = count_of(&self.entries[..self.len], entry.word);
+        self.images = more_images(self.images, c);
+        self.entries[self.len] = entry;
+        self.len += 1;
+    }
+
+    // Puts an entry, unless it is that of the flushed value or is there already.
+    fn store(&mut self, entry: Entry, flushed: u64)
+        requires { (length self.old < table_room) × (table_count self.old ≤ max_crashes) }
+        ensures { self.new
+            ≡ cond (eqb entry.value flushed || in_table entry.word entry.value self.old) self.old (entry ∷ self.old) }
+    {
+        if entry.value != flushed && !self.entries().contains(&entry) {
+            self.put(entry);
+        }
+    }
+
+    // Keeps the entries of words that a flush does not cover.
+    fn flush(&mut self, first: u64, count: u64)
+        requires { table_count self.old ≤ max_crashes }
+        ensures { self.new ≡ without first count self.old }
+    {
+        let mut kept = 0;
+        let mut images = 1;
+        for j in 0..self.len {
+            let entry = self.entries[j];
+            if covers(first, count, entry.word) {
+                continue;
+            }
+            images = more_images(images, count_of(&self.entries[..kept], entry.word));
+            self.entries[kept] = entry;
+            kept += 1;
+        }
+        self.len = kept;
+        self.images = images;
+    }
+
+    // From the table after k ops, that after k + 1.
+    pub fn carry(&mut self, image: &[u64], ops: &[u64], k: usize)
+        requires { GoodOps (length image.now) ops.now × (k * 3 + 3 ≤ length ops.now)
+            × (self.old ≡ table_at image.now (ops_of ops.now) k)
+            × (length self.old < table_room) × (table_count self.old ≤ max_crashes) }
+        ensures { self.new ≡ table_at image.now (ops_of ops.now) (k + 1) }
+    {
+        let at = k * 3;
+        let word = ops[at + 1];
+        let argument = ops[at + 2];
+        if ops[at] == 1 {
+            let held = held_at(image, ops, k, word as usize);
+            self.store(
+                Entry {
+                    word,
+                    value: argument,
+                },
+                held.flushed,
+            );
+        } else {
+            self.flush(word, argument);
+        }
+    }
 }

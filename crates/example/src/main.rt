@@ -4,7 +4,7 @@
 #![tactic(auto)]
 
 use drivelog::{Answer, State};
-use list_image::{Listed, list_image, listing_room};
+use list_image::{list_image, listing_room};
 use std::io;
 
 // The words of the module, the ops for which the op buffer has room, and its words.
@@ -17,10 +17,7 @@ const OPS_WORDS: usize = 3 * MAX_OPS;
 // The driver: carries the first `count` ops out on the module. A store is (1, word, value). For a flush, (2, first word,
 // count), there is nothing to do: this module has no cache in front of it.
 fn carry_out(ops: &[u64; OPS_WORDS], count: usize, module: &mut [u64; WORDS]) {
-    for k in 0..MAX_OPS {
-        if k == count {
-            return;
-        }
+    for k in 0..count.min(MAX_OPS) {
         let word = ops[3 * k + 1];
         if ops[3 * k] == 1 {
             if word < WORDS as u64 {
@@ -41,8 +38,7 @@ fn append(
 ) -> State {
     let reserved = drivelog::reserve(state, image, ops, kind, data.len() as u64);
     carry_out(ops, reserved.ops, module);
-    let answer = reserved.answer;
-    let Answer::Reserved(lsn, _) = answer else {
+    let Ok(Answer::Reserved(lsn, _)) = reserved.answer else {
         return reserved.state;
     };
     let copied = drivelog::copy(reserved.state, image, ops, lsn, 0, data);
@@ -63,8 +59,7 @@ fn force(
     module: &mut [u64; WORDS],
 ) -> State {
     let forced = drivelog::force(state, image, ops, lsn, 1);
-    let count = if most < forced.ops { most } else { forced.ops };
-    carry_out(ops, count, module);
+    carry_out(ops, most.min(forced.ops), module);
     forced.state
 }
 
@@ -104,8 +99,8 @@ fn next_run(rt: &impl Print, mut module: [u64; WORDS]) -> io::Result<()> {
     let mut text = listing_room();
     let listed = list_image(&image, &mut text);
     match listed {
-        Listed::Text(end) => rt.write_all(&text[..end]),
-        Listed::NoRoom => Ok(()),
+        Some(end) => rt.write_all(&text[..end]),
+        None => Ok(()),
     }
 }
 

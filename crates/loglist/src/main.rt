@@ -9,7 +9,7 @@ ghost use Rattle.std.specs.Io.KnownBytes.{Appends};
 ghost use Rattle.text.specs.Text.{Appended};
 ghost use Rattle.list_image.specs.Listing.{bytes_text, listing_room};
 
-use list_image::{Listed, list_bytes, listing_room};
+use list_image::{list_bytes, listing_room};
 use read_input::read_full;
 use std::io;
 use std::io::{Read, Write};
@@ -26,11 +26,7 @@ fn put_listing(input: &[u8], text: &mut [u8]) -> usize
     requires { listing_room ≤ length text.old }
     ensures { Appended 0 result text.old text.new (bytes_text input.now) }
 {
-    let listed = list_bytes(input, text);
-    match listed {
-        Listed::Text(end) => end,
-        Listed::NoRoom => 0,
-    }
+    list_bytes(input, text).unwrap_or(0)
 }
 
 // Reads an image's bytes into the first room, and writes the listing, made in the second.

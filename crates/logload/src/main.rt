@@ -15,7 +15,7 @@ ghost use Rattle.logload.specs.Output.{reply_bytes, loaded_bytes};
 
 use list_lines::refused_line;
 use load_bytes::put_words;
-use load_image::{Answer, load_text};
+use load_image::load_text;
 use read_input::read_full;
 use refusal::{Refusal, number_of};
 use std::io;
@@ -69,17 +69,21 @@ fn write_refusal<W: Write>(to: &mut W, why: Refusal) -> io::Result<()>
 }
 
 // Writes what a loading answers: the image's bytes, or a refusal.
-fn write_answer<W: Write>(to: &mut W, answer: Answer, image: &[u64; 8192]) -> io::Result<()>
+fn write_answer<W: Write>(
+    to: &mut W,
+    answer: Result<(), Refusal>,
+    image: &[u64; 8192],
+) -> io::Result<()>
     ensures { OnOk result (Appends (W.contents to.old) (W.contents to.new) (reply_bytes (answer_reply answer image.now))) }
 {
     match answer {
-        Answer::Done => write_image(to, image),
-        Answer::Refused(why) => write_refusal(to, why),
+        Ok(()) => write_image(to, image),
+        Err(why) => write_refusal(to, why),
     }
 }
 
 // Loads a listing's text into an image.
-fn load_whole(input: &[u8], image: &mut [u64; 8192]) -> Answer
+fn load_whole(input: &[u8], image: &mut [u64; 8192]) -> Result<(), Refusal>
     ensures { reply_bytes (answer_reply result image.new) ≡ loaded_bytes input.now }
 {
     load_text(input, image)

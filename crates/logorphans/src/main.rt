@@ -11,7 +11,7 @@ ghost use Rattle.text.specs.Text.{Appended};
 ghost use Rattle.list_image.specs.Listing.{listing_room};
 ghost use Rattle.list_orphans.specs.OrphansText.{orphans_text};
 
-use list_image::{Listed, listing_room};
+use list_image::listing_room;
 use list_orphans::list_orphans;
 use read_input::read_full;
 use std::io;
@@ -31,8 +31,8 @@ fn put_orphans(input: &[u8], text: &mut [u8]) -> usize
 {
     let listed = list_orphans(input, text);
     match listed {
-        Listed::Text(end) => end,
-        Listed::NoRoom => 0,
+        Some(end) => end,
+        None => 0,
     }
 }
 

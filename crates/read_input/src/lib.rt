@@ -16,6 +16,7 @@ pub fn read_full<R: Read>(from: &mut R, bytes: &mut [u8]) -> io::Result<usize>
     ensures end { IfOk result (λ n. n < length bytes.new → IsAtEnd (R.remaining from.new)) }
     ensures first { IfOk result (λ n. IfSome (R.remaining from.old) (λ xs. take n bytes.new ≡ take (length bytes.new) xs)) }
 {
+    // `read_exact` would not say how many bytes there were before the end.
     let mut done = 0;
     while done < bytes.len() {
         let n = from.read(&mut bytes[done..])?;

@@ -1,7 +1,7 @@
 // The calls of the log. What they do is said by their own contracts.
 use crate::said;
 use crate::said::Told;
-use drivelog::{Answer, Cursor, Outcome, State, TABLE_SIZE};
+use drivelog::{Answer, Cursor, Outcome, Refusal, State, TABLE_SIZE};
 use replay_script::input::Command;
 use replay_script::setup::fill_bytes;
 use words_state::{STATE_WORDS, load, save};
@@ -16,31 +16,17 @@ fn write(
     ops: &mut [u64],
     bytes: &[u8],
 ) -> Outcome {
-    if number == 10 {
-        return drivelog::format(image, ops);
+    match number {
+        10 => drivelog::format(image, ops),
+        11 => drivelog::reserve(s, image, ops, first, second),
+        12 => drivelog::copy(s, image, ops, first, second, bytes),
+        13 => drivelog::complete(s, image, ops, first),
+        14 => drivelog::force(s, image, ops, first, second),
+        15 => drivelog::release(s, image, ops, first),
+        16 => drivelog::release_all(s, image, ops),
+        18 => drivelog::append(s, image, ops, first, bytes, second),
+        _ => drivelog::recover(image, ops),
     }
-    if number == 11 {
-        return drivelog::reserve(s, image, ops, first, second);
-    }
-    if number == 12 {
-        return drivelog::copy(s, image, ops, first, second, bytes);
-    }
-    if number == 13 {
-        return drivelog::complete(s, image, ops, first);
-    }
-    if number == 14 {
-        return drivelog::force(s, image, ops, first, second);
-    }
-    if number == 15 {
-        return drivelog::release(s, image, ops, first);
-    }
-    if number == 16 {
-        return drivelog::release_all(s, image, ops);
-    }
-    if number == 18 {
-        return drivelog::append(s, image, ops, first, bytes, second);
-    }
-    drivelog::recover(image, ops)
 }
 
 // Each output byte before a fetch.
@@ -48,27 +34,22 @@ const OUTPUT_FILL: u8 = 238;
 
 // Makes a reading call. A fetch puts its bytes into `output`.
 fn read(c: Command, cursor: Cursor, image: &[u64], output: &mut [u8]) -> Told {
-    if c.number == 20 {
-        return said::of_opened(drivelog::open(image), cursor);
+    match c.number {
+        20 => said::of_opened(drivelog::open(image), cursor),
+        21 => said::of_step(drivelog::next(image, cursor), cursor),
+        _ => {
+            fill_bytes(output, OUTPUT_FILL);
+            let fetched = drivelog::fetch(image, c.first, c.second, output);
+            let said = said::of_fetched(fetched);
+            Told { said, cursor }
+        }
     }
-    if c.number == 21 {
-        return said::of_step(drivelog::next(image, cursor), cursor);
-    }
-    fill_bytes(output, OUTPUT_FILL);
-    let fetched = drivelog::fetch(image, c.first, c.second, output);
-    let said = said::of_fetched(fetched);
-    Told { said, cursor }
 }
 
 // Whether the state that a writing call returns is the one to go on with. It always is, a refused call's too, but for a
 // refused format or recover: these make a state anew, and where they are refused there is none.
-fn goes_on(number: u64, answer: Answer) -> bool {
-    if (number == 10) | (number == 17) {
-        if let Answer::Refused(_) = answer {
-            return false;
-        }
-    }
-    true
+fn goes_on(number: u64, answer: Result<Answer, Refusal>) -> bool {
+    answer.is_ok() | ((number != 10) & (number != 17))
 }
 
 // Makes a command's call, if it has one, on the state and the cursor that are kept, and keeps the state that it

@@ -8,7 +8,7 @@ mod said;
 use calls::make;
 use drivelog::Cursor;
 use replay_script::input::{Command, MAX_BYTES, MAX_IMAGE, MAX_OPS};
-use replay_script::output::TEXT_SIZE;
+use replay_script::output::Output;
 use replay_script::print::print;
 use replay_script::setup::{fill_words, set};
 use replay_script::{input, limited};
@@ -26,7 +26,7 @@ fn act(
     image: &mut [u64],
     ops: &mut [u64],
     bytes: &mut [u8],
-    out: &mut [u8; TEXT_SIZE],
+    out: &mut Output,
 ) -> io::Result<Cursor> {
     set(c, state, image);
     let told = make(c, cursor, state, image, ops, bytes);
@@ -53,7 +53,7 @@ fn carry_out(
     image: &mut [u64],
     ops: &mut [u64],
     bytes: &mut [u8],
-    out: &mut [u8; TEXT_SIZE],
+    out: &mut Output,
 ) -> io::Result<Kept> {
     let image_used = fill_words(image, kept.image_used, c.number == 1, c.first, c.second);
     let ops_used = fill_words(ops, kept.ops_used, c.number == 3, c.first, c.second);
@@ -78,15 +78,15 @@ fn carry_out(
 }
 
 // Carries out the commands of the script, from an image and an op buffer of no words and a state and a cursor all
-// zero. A proved loop has to end, and nothing says that the input does, so it counts its turns down from a number that
-// no run uses up.
+// zero. A proved loop has to end, and nothing says that the input does, so it goes through more turns than any run uses
+// up.
 fn run(
     rt: &impl Print,
     from: &mut impl Read,
     image: &mut [u64],
     ops: &mut [u64],
     bytes: &mut [u8],
-    out: &mut [u8; TEXT_SIZE],
+    out: &mut Output,
 ) -> io::Result<()> {
     let mut state = [0u64; STATE_WORDS];
     let cursor = Cursor {
@@ -102,14 +102,11 @@ fn run(
         image_used: 0,
         ops_used: 0,
     };
-    let mut turns: u64 = 18446744073709551615;
-    while turns > 0 {
-        let c = input::read_command(rt, from, bytes)?;
-        if c.number == 0 {
+    for _ in 0..u64::MAX {
+        let Some(c) = input::read_command(rt, from, bytes)? else {
             return Ok(());
-        }
+        };
         kept = carry_out(rt, c, kept, &mut state, image, ops, bytes, out)?;
-        turns -= 1;
     }
     Ok(())
 }
@@ -118,7 +115,7 @@ fn main(rt: HostRuntime) -> io::Result<()> {
     let mut image = [0u64; MAX_IMAGE];
     let mut ops = [0u64; MAX_OPS];
     let mut bytes = [0u8; MAX_BYTES];
-    let mut out = [0u8; TEXT_SIZE];
+    let mut out = Output::new();
     run(
         &rt,
         &mut rt.stdin(),

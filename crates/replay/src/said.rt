@@ -1,5 +1,5 @@
 // What a call answered, as a line says it: a word and numbers.
-use drivelog::{Answer, Cursor, Fetched, Opened, Refusal, Step};
+use drivelog::{Answer, Cursor, Refusal, Step};
 use replay_script::input::Command;
 use replay_script::print::{AnswerWord, Said};
 
@@ -35,13 +35,13 @@ fn refused(why: Refusal) -> Said {
 }
 
 // The answer of a writing call, with its count of ops.
-pub fn of_answer(answer: Answer, ops: u64) -> Said {
+pub fn of_answer(answer: Result<Answer, Refusal>, ops: u64) -> Said {
     match answer {
-        Answer::Done => short(AnswerWord::Ok, 0, 0, 0, ops),
-        Answer::Reserved(lsn, pos) => short(AnswerWord::Ok, 2, lsn, pos, ops),
-        Answer::Durable => short(AnswerWord::Kept, 0, 0, 0, ops),
-        Answer::Deferred => short(AnswerWord::PutOff, 0, 0, 0, ops),
-        Answer::Refused(why) => refused(why),
+        Ok(Answer::Done) => short(AnswerWord::Ok, 0, 0, 0, ops),
+        Ok(Answer::Reserved(lsn, pos)) => short(AnswerWord::Ok, 2, lsn, pos, ops),
+        Ok(Answer::Durable) => short(AnswerWord::Kept, 0, 0, 0, ops),
+        Ok(Answer::Deferred) => short(AnswerWord::PutOff, 0, 0, 0, ops),
+        Err(why) => refused(why),
     }
 }
 
@@ -57,9 +57,9 @@ fn long(word: AnswerWord, numbers: [u64; 6]) -> Said {
 }
 
 // The answer of open, with its cursor.
-pub fn of_opened(opened: Opened, cursor: Cursor) -> Told {
+pub fn of_opened(opened: Result<Cursor, Refusal>, cursor: Cursor) -> Told {
     match opened {
-        Opened::At(c) => {
+        Ok(c) => {
             let said = long(
                 AnswerWord::Ok,
                 [
@@ -73,7 +73,7 @@ pub fn of_opened(opened: Opened, cursor: Cursor) -> Told {
             );
             Told { said, cursor: c }
         }
-        Opened::Refused(why) => {
+        Err(why) => {
             let said = refused(why);
             Told { said, cursor }
         }
@@ -81,9 +81,9 @@ pub fn of_opened(opened: Opened, cursor: Cursor) -> Told {
 }
 
 // The answer of next, with the cursor after a record.
-pub fn of_step(step: Step, cursor: Cursor) -> Told {
+pub fn of_step(step: Result<Step, Refusal>, cursor: Cursor) -> Told {
     match step {
-        Step::Record(f, behind) => {
+        Ok(Step::Record(f, behind)) => {
             let said = long(
                 AnswerWord::Record,
                 [f.pos, f.lsn, f.kind, f.length, f.mark, f.epoch],
@@ -93,11 +93,11 @@ pub fn of_step(step: Step, cursor: Cursor) -> Told {
                 cursor: behind,
             }
         }
-        Step::End(lsn) => {
+        Ok(Step::End(lsn)) => {
             let said = short(AnswerWord::End, 1, lsn, 0, 0);
             Told { said, cursor }
         }
-        Step::Refused(why) => {
+        Err(why) => {
             let said = refused(why);
             Told { said, cursor }
         }
@@ -105,10 +105,10 @@ pub fn of_step(step: Step, cursor: Cursor) -> Told {
 }
 
 // The answer of fetch.
-pub fn of_fetched(fetched: Fetched) -> Said {
+pub fn of_fetched(fetched: Result<(), Refusal>) -> Said {
     match fetched {
-        Fetched::Done => short(AnswerWord::Ok, 0, 0, 0, 0),
-        Fetched::Refused(why) => refused(why),
+        Ok(()) => short(AnswerWord::Ok, 0, 0, 0, 0),
+        Err(why) => refused(why),
     }
 }
 

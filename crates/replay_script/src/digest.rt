@@ -9,28 +9,7 @@ fn with_value(h: u64, x: u64) -> u64 {
     (h % PRIME * 31 + x % PRIME) % PRIME
 }
 
-// The digest with a list of words more.
-pub fn with_words(start: u64, words: &[u64]) -> u64 {
-    let mut h = start;
-    let mut i: usize = 0;
-    while i < words.len() {
-        h = with_value(h, words[i]);
-        i += 1;
-    }
-    h
-}
-
-fn wide(byte: u8) -> u64 {
-    byte as u64
-}
-
-// The digest of a list of bytes.
-pub fn of_bytes(bytes: &[u8]) -> u64 {
-    let mut h = START;
-    let mut i: usize = 0;
-    while i < bytes.len() {
-        h = with_value(h, wide(bytes[i]));
-        i += 1;
-    }
-    h
+// The digest with a list of values more, words or bytes.
+pub fn with_values<T: Copy + Into<u64>>(start: u64, values: &[T]) -> u64 {
+    values.iter().fold(start, |h, &x| with_value(h, x.into()))
 }

@@ -11,7 +11,7 @@ pub const MAX_OPS: usize = 26000;
 
 pub const MAX_BYTES: usize = 2048;
 
-// A command's number, 0 at the end of the script, and its arguments; those that it does not have are 0.
+// A command's number and its arguments; those that it does not have are 0.
 #[derive(Clone, Copy)]
 pub struct Command {
     pub number: u64,
@@ -23,27 +23,23 @@ pub struct Command {
     pub sixth: u64,
 }
 
-// A word of the input, if it is there.
-#[derive(Clone, Copy)]
-struct Word {
-    value: u64,
-    is_there: bool,
-}
-
-// Reads a word if it is wanted.
-fn read_word(from: &mut impl Read, is_wanted: bool) -> io::Result<Word> {
-    if !is_wanted {
-        return Ok(Word {
-            value: 0,
-            is_there: true,
-        });
-    }
+// Reads a word, if it is there.
+fn read_word(from: &mut impl Read) -> io::Result<Option<u64>> {
     let mut bytes = [0u8; 8];
     let got = read_full(from, &mut bytes)?;
-    Ok(Word {
-        value: layout::pack(bytes),
-        is_there: got == 8,
-    })
+    Ok((got == 8).then_some(layout::pack(bytes)))
+}
+
+// Reads so many arguments, if all are there; those that a command does not have are 0.
+fn read_arguments(from: &mut impl Read, count: usize) -> io::Result<Option<[u64; 6]>> {
+    let mut arguments = [0u64; 6];
+    for argument in arguments.iter_mut().take(count) {
+        let Some(word) = read_word(from)? else {
+            return Ok(None);
+        };
+        *argument = word;
+    }
+    Ok(Some(arguments))
 }
 
 // Reads `count` bytes rounded up to whole words, and says whether all were there. They do not fit only where the count
@@ -60,96 +56,67 @@ fn read_bytes(from: &mut impl Read, bytes: &mut [u8], count: u64) -> io::Result<
     Ok(got == size)
 }
 
-// How many arguments a command has; 7 where there is no such command.
-fn argument_count(number: u64) -> u64 {
+// How many arguments a command has, if there is such a command.
+fn argument_count(number: u64) -> Option<usize> {
     match number {
-        0 | 10 | 16 | 17 | 20 | 21 | 31 => 0,
-        13 | 15 => 1,
-        1 | 2 | 3 | 4 | 11 | 14 | 30 => 2,
-        12 | 18 | 22 => 3,
-        5 | 6 => 6,
-        _ => 7,
+        10 | 16 | 17 | 20 | 21 | 31 => Some(0),
+        13 | 15 => Some(1),
+        1 | 2 | 3 | 4 | 11 | 14 | 30 => Some(2),
+        12 | 18 | 22 => Some(3),
+        5 | 6 => Some(6),
+        _ => None,
     }
 }
 
 // Whether a command exceeds a limit: its count of words, or of bytes.
 fn is_too_large(number: u64, first: u64, third: u64) -> bool {
-    ((number == 1) & (first > MAX_IMAGE as u64))
-        | ((number == 3) & (first > MAX_OPS as u64))
-        | (((number == 12) | (number == 18) | (number == 22)) & (third > MAX_BYTES as u64))
+    match number {
+        1 => first > MAX_IMAGE as u64,
+        3 => first > MAX_OPS as u64,
+        12 | 18 | 22 => third > MAX_BYTES as u64,
+        _ => false,
+    }
 }
 
-// Prints that a word is no command, or that a command exceeds a limit. Answers 0, the end of the script.
-fn bad(rt: &impl Print, number: u64) -> io::Result<u64> {
+// Prints that a word is no command, or that a command exceeds a limit, which ends the script.
+fn bad(rt: &impl Print, number: u64) -> io::Result<Option<Command>> {
     println!(rt; "bad {number}")?;
-    Ok(0)
+    Ok(None)
 }
 
-// Reads a command's number. The end of the input counts as the end of the script.
-fn read_number(rt: &impl Print, from: &mut impl Read) -> io::Result<u64> {
-    let word = read_word(from, true)?;
-    if !word.is_there {
-        return Ok(0);
-    }
-    if argument_count(word.value) == 7 {
-        return bad(rt, word.value);
-    }
-    Ok(word.value)
-}
-
-// The number of a command whose arguments are read, once the bytes of a copy or an append are too; 0 if the input cut it
-// off or it exceeds a limit.
-fn accepted(
-    rt: &impl Print,
-    from: &mut impl Read,
-    number: u64,
-    is_whole: bool,
-    first: u64,
-    third: u64,
-    bytes: &mut [u8],
-) -> io::Result<u64> {
-    if !is_whole {
-        return Ok(0);
-    }
-    if is_too_large(number, first, third) {
-        return bad(rt, number);
-    }
-    if (number == 12) | (number == 18) {
-        if !read_bytes(from, bytes, third)? {
-            return Ok(0);
-        }
-    }
-    Ok(number)
-}
-
-// Reads the next command, and the bytes after a copy or an append.
+// Reads the next command, and the bytes after a copy or an append. There is none after the 0 that ends the script, and at
+// the end of the input, also one that cuts a command off.
 pub fn read_command(
     rt: &impl Print,
     from: &mut impl Read,
     bytes: &mut [u8],
-) -> io::Result<Command> {
-    let number = read_number(rt, from)?;
-    let count = argument_count(number);
-    let first = read_word(from, 0 < count)?;
-    let second = read_word(from, 1 < count)?;
-    let third = read_word(from, 2 < count)?;
-    let fourth = read_word(from, 3 < count)?;
-    let fifth = read_word(from, 4 < count)?;
-    let sixth = read_word(from, 5 < count)?;
-    let is_whole = first.is_there
-        & second.is_there
-        & third.is_there
-        & fourth.is_there
-        & fifth.is_there
-        & sixth.is_there;
-    let number = accepted(rt, from, number, is_whole, first.value, third.value, bytes)?;
-    Ok(Command {
+) -> io::Result<Option<Command>> {
+    let Some(number) = read_word(from)? else {
+        return Ok(None);
+    };
+    if number == 0 {
+        return Ok(None);
+    }
+    let Some(count) = argument_count(number) else {
+        return bad(rt, number);
+    };
+    let Some(arguments) = read_arguments(from, count)? else {
+        return Ok(None);
+    };
+    let [first, second, third, fourth, fifth, sixth] = arguments;
+    if is_too_large(number, first, third) {
+        return bad(rt, number);
+    }
+    if ((number == 12) | (number == 18)) && !read_bytes(from, bytes, third)? {
+        return Ok(None);
+    }
+    Ok(Some(Command {
         number,
-        first: first.value,
-        second: second.value,
-        third: third.value,
-        fourth: fourth.value,
-        fifth: fifth.value,
-        sixth: sixth.value,
-    })
+        first,
+        second,
+        third,
+        fourth,
+        fifth,
+        sixth,
+    }))
 }

@@ -20,3 +20,8 @@ pub fn limited(n: u64, limit: usize) -> usize
     }
     limit
 }
+
+// The first `count` of a list of words, or all where there are fewer.
+pub fn front(words: &[u64], count: u64) -> &[u64] {
+    &words[..limited(count, words.len())]
+}

@@ -3,8 +3,8 @@ ghost use Rattle.std.specs.Prelude.{◌<◌};
 ghost use Rattle.state.specs.Table.{table_size};
 
 use crate::input::Command;
-use crate::output::{TEXT_SIZE, end_line, put_byte, put_number, put_numbers, put_text};
-use crate::{digest, limited};
+use crate::output::Output;
+use crate::{digest, front, limited};
 use state::{TABLE_SIZE, stage_number};
 use std::io;
 use words_state::{FIRST_ENTRY, STATE_WORDS, entry_from};
@@ -32,45 +32,45 @@ pub struct Said {
 }
 
 // Puts the name of a call, by the number of its command.
-fn put_call(rt: &impl Print, out: &mut [u8; TEXT_SIZE], number: u64) -> io::Result<()> {
+fn put_call(rt: &impl Print, out: &mut Output, number: u64) -> io::Result<()> {
     match number {
-        10 => put_text(rt, out, b"format"),
-        11 => put_text(rt, out, b"reserve"),
-        12 => put_text(rt, out, b"copy"),
-        13 => put_text(rt, out, b"complete"),
-        14 => put_text(rt, out, b"force"),
-        15 => put_text(rt, out, b"release"),
-        16 => put_text(rt, out, b"releaseall"),
-        17 => put_text(rt, out, b"takeup"),
-        18 => put_text(rt, out, b"append"),
-        20 => put_text(rt, out, b"open"),
-        21 => put_text(rt, out, b"next"),
-        _ => put_text(rt, out, b"fetch"),
+        10 => out.put_text(rt, b"format"),
+        11 => out.put_text(rt, b"reserve"),
+        12 => out.put_text(rt, b"copy"),
+        13 => out.put_text(rt, b"complete"),
+        14 => out.put_text(rt, b"force"),
+        15 => out.put_text(rt, b"release"),
+        16 => out.put_text(rt, b"releaseall"),
+        17 => out.put_text(rt, b"takeup"),
+        18 => out.put_text(rt, b"append"),
+        20 => out.put_text(rt, b"open"),
+        21 => out.put_text(rt, b"next"),
+        _ => out.put_text(rt, b"fetch"),
     }
 }
 
 // Puts the word of an answer.
-fn put_word(rt: &impl Print, out: &mut [u8; TEXT_SIZE], word: AnswerWord) -> io::Result<()> {
+fn put_word(rt: &impl Print, out: &mut Output, word: AnswerWord) -> io::Result<()> {
     match word {
-        AnswerWord::Ok => put_text(rt, out, b" ok"),
-        AnswerWord::Kept => put_text(rt, out, b" kept"),
-        AnswerWord::PutOff => put_text(rt, out, b" putoff"),
-        AnswerWord::Record => put_text(rt, out, b" record"),
-        AnswerWord::End => put_text(rt, out, b" end"),
-        AnswerWord::Refused => put_text(rt, out, b" refused"),
+        AnswerWord::Ok => out.put_text(rt, b" ok"),
+        AnswerWord::Kept => out.put_text(rt, b" kept"),
+        AnswerWord::PutOff => out.put_text(rt, b" putoff"),
+        AnswerWord::Record => out.put_text(rt, b" record"),
+        AnswerWord::End => out.put_text(rt, b" end"),
+        AnswerWord::Refused => out.put_text(rt, b" refused"),
     }
 }
 
 // Puts the test that a damaged record fails, by its number; nothing where there is none.
-fn put_damage(rt: &impl Print, out: &mut [u8; TEXT_SIZE], damage: u64) -> io::Result<()> {
+fn put_damage(rt: &impl Print, out: &mut Output, damage: u64) -> io::Result<()> {
     match damage {
-        1 => put_text(rt, out, b" mark"),
-        2 => put_text(rt, out, b" kind"),
-        3 => put_text(rt, out, b" length"),
-        4 => put_text(rt, out, b" fit"),
-        5 => put_text(rt, out, b" LSN"),
-        6 => put_text(rt, out, b" check"),
-        7 => put_text(rt, out, b" epoch"),
+        1 => out.put_text(rt, b" mark"),
+        2 => out.put_text(rt, b" kind"),
+        3 => out.put_text(rt, b" length"),
+        4 => out.put_text(rt, b" fit"),
+        5 => out.put_text(rt, b" LSN"),
+        6 => out.put_text(rt, b" check"),
+        7 => out.put_text(rt, b" epoch"),
         _ => Ok(()),
     }
 }
@@ -94,82 +94,66 @@ fn entry_numbers(state: &[u64; STATE_WORDS], i: usize) -> [u64; 5]
 // The digest of the state: of its eight numbers and those of each table entry.
 fn state_digest(state: &[u64; STATE_WORDS]) -> u64 {
     let words: &[u64] = state;
-    let mut h = digest::with_words(digest::START, &words[..FIRST_ENTRY]);
-    let mut i: usize = 0;
-    while i < TABLE_SIZE {
-        let entry = entry_numbers(state, i);
-        h = digest::with_words(h, &entry);
-        i += 1;
+    let mut h = digest::with_values(digest::START, &words[..FIRST_ENTRY]);
+    for i in 0..TABLE_SIZE {
+        h = digest::with_values(h, &entry_numbers(state, i));
     }
     h
 }
 
 // Puts the count of ops, and each op as it stands in the op buffer. The remainder is the count itself, and keeps the
 // product from wrapping.
-fn put_ops(rt: &impl Print, out: &mut [u8; TEXT_SIZE], ops: &[u64], count: u64) -> io::Result<()> {
-    put_text(rt, out, b" orders")?;
-    put_number(rt, out, b' ', count)?;
-    put_numbers(rt, out, ops, 3 * (count % 65536), true)
+fn put_ops(rt: &impl Print, out: &mut Output, ops: &[u64], count: u64) -> io::Result<()> {
+    out.put_text(rt, b" orders")?;
+    out.put_number(rt, b' ', count)?;
+    for op in front(ops, 3 * (count % 65536)).chunks(3) {
+        out.put_op(rt, op)?;
+    }
+    Ok(())
 }
 
 // Puts the numbers of a table entry unless it is free: its index, its three numbers, its stage's and its epoch.
-fn put_entry(
-    rt: &impl Print,
-    out: &mut [u8; TEXT_SIZE],
-    i: usize,
-    numbers: [u64; 5],
-) -> io::Result<()> {
+fn put_entry(rt: &impl Print, out: &mut Output, i: usize, numbers: [u64; 5]) -> io::Result<()> {
     if numbers[3] == 0 {
         return Ok(());
     }
-    put_byte(rt, out, b' ')?;
-    put_number(rt, out, b'[', i as u64)?;
-    put_numbers(rt, out, &numbers, 5, false)?;
-    put_byte(rt, out, b']')
+    out.put_byte(rt, b' ')?;
+    out.put_number(rt, b'[', i as u64)?;
+    out.put_numbers(rt, &numbers)?;
+    out.put_byte(rt, b']')
 }
 
 // Prints the state: its eight numbers, and the table entries that are not free.
-fn print_state(
-    rt: &impl Print,
-    out: &mut [u8; TEXT_SIZE],
-    state: &[u64; STATE_WORDS],
-) -> io::Result<()> {
-    put_text(rt, out, b"state")?;
-    put_numbers(rt, out, state, FIRST_ENTRY as u64, false)?;
-    let mut i: usize = 0;
-    while i < TABLE_SIZE {
+fn print_state(rt: &impl Print, out: &mut Output, state: &[u64; STATE_WORDS]) -> io::Result<()> {
+    out.put_text(rt, b"state")?;
+    out.put_numbers(rt, &state[..FIRST_ENTRY])?;
+    for i in 0..TABLE_SIZE {
         put_entry(rt, out, i, entry_numbers(state, i))?;
-        i += 1;
     }
-    end_line(rt, out)
+    out.end_line(rt)
 }
 
 // Prints `count` words of the image from `first` on, as far as they exist.
 fn print_words(
     rt: &impl Print,
-    out: &mut [u8; TEXT_SIZE],
+    out: &mut Output,
     image: &[u64],
     first: u64,
     count: u64,
 ) -> io::Result<()> {
     let start = limited(first, image.len());
-    put_text(rt, out, b"words")?;
-    put_numbers(rt, out, &image[start..], count, false)?;
-    end_line(rt, out)
+    out.put_text(rt, b"words")?;
+    out.put_numbers(rt, front(&image[start..], count))?;
+    out.end_line(rt)
 }
 
 // Begins the line of a call: its name and answer, with the word of a damaged record's test.
-fn put_answer(
-    rt: &impl Print,
-    out: &mut [u8; TEXT_SIZE],
-    number: u64,
-    said: Said,
-) -> io::Result<()> {
+fn put_answer(rt: &impl Print, out: &mut Output, number: u64, said: Said) -> io::Result<()> {
     let word = said.word;
     let numbers = said.numbers;
     put_call(rt, out, number)?;
     put_word(rt, out, word)?;
-    put_numbers(rt, out, &numbers, said.count, false)?;
+    out.put_numbers(rt, front(&numbers, said.count))?;
     put_damage(rt, out, said.damage)
 }
 
@@ -177,7 +161,7 @@ fn put_answer(
 // the output.
 fn print_digests(
     rt: &impl Print,
-    out: &mut [u8; TEXT_SIZE],
+    out: &mut Output,
     count: u64,
     state: &[u64; STATE_WORDS],
     image: &[u64],
@@ -185,20 +169,20 @@ fn print_digests(
     output: &[u8],
 ) -> io::Result<()> {
     let digests = [
-        digest::with_words(digest::START, image),
-        digest::with_words(digest::START, ops),
+        digest::with_values(digest::START, image),
+        digest::with_values(digest::START, ops),
         state_digest(state),
-        digest::of_bytes(output),
+        digest::with_values(digest::START, output),
     ];
-    put_text(rt, out, b" =")?;
-    put_numbers(rt, out, &digests, count, false)?;
-    end_line(rt, out)
+    out.put_text(rt, b" =")?;
+    out.put_numbers(rt, front(&digests, count))?;
+    out.end_line(rt)
 }
 
 // Prints the line of a call, with its ops if it is one that writes.
 fn print_call(
     rt: &impl Print,
-    out: &mut [u8; TEXT_SIZE],
+    out: &mut Output,
     number: u64,
     said: Said,
     state: &[u64; STATE_WORDS],
@@ -217,7 +201,7 @@ fn print_call(
 // Prints the line of a command from 10 on.
 pub fn print(
     rt: &impl Print,
-    out: &mut [u8; TEXT_SIZE],
+    out: &mut Output,
     c: Command,
     said: Said,
     state: &[u64; STATE_WORDS],

@@ -1,5 +1,6 @@
 // The commands that set up what the calls work on: words of the image and the op buffer, the state.
 use crate::input::Command;
+use crate::limited;
 use state::{Entry, TABLE_SIZE};
 use words_state::{FIRST_ENTRY, STATE_WORDS, put_entry, stage_from};
 
@@ -9,24 +10,14 @@ pub fn fill_words(words: &mut [u64], used: u64, fills: bool, count: u64, value: 
     if !fills {
         return used;
     }
-    let mut i: usize = 0;
-    while i < words.len() {
-        if i as u64 == count {
-            return count;
-        }
-        words[i] = value;
-        i += 1;
-    }
+    let n = limited(count, words.len());
+    words[..n].fill(value);
     count
 }
 
 // Each byte becomes `value`.
 pub fn fill_bytes(bytes: &mut [u8], value: u8) {
-    let mut i: usize = 0;
-    while i < bytes.len() {
-        bytes[i] = value;
-        i += 1;
-    }
+    bytes.fill(value);
 }
 
 // A table entry becomes what the arguments say. A number that is no stage's is free.

@@ -1,13 +1,15 @@
--- Texts put one after another: nothing, one byte, two texts in a row, a text under way, and one byte more of a byte
--- string.
+-- Texts put one after another: nothing, one byte, a part of the buffer, two texts in a row, a text under way, and one
+-- byte more in hex.
 -- Cites specs/Text.antt.
 use mathlib.Core.Path.{◌≡◌, refl, sym, ap, ◌∙◌}
 use mathlib.Core.List.{List, [], ◌∷◌, ◌++◌, append_assoc, append-nil}
 use Prim.Native.Nat.{ℕ, suc, ◌+◌, ◌*◌, ◌-◌, ◌/◌, ◌%◌, ◌≤◌, ◌<◌}
 use native.Mathlib.Numerals.{add-one}
 use native.Mathlib.Omega.{arith}
-use lib.ListN.{length, take, drop, get_or, set, length-append, length-take, length-set}
+use lib.ListN.{length, take, drop, get_or, set, length-append, length-take, length-drop, length-set}
 use lib.Seq.{take-suc, take-suc-set, drop-set-lt, drop-drop}
+use borrow.Rule.Slice.PartMut.{put_mid}
+use Rattle.std.proofs.lemmas.Slice.{take-put_mid, drop-put_mid}
 use Rattle.io.specs.Digits.{hex_digit_ascii}
 use Rattle.text.specs.Text.{hex_text, Appended}
 
@@ -60,15 +62,15 @@ module _ {at₀ at to : ℕ} {out₀ out out' rest whole text : List ℕ} (way :
   pub leads_last : rest ≡ text → Appended at₀ to out₀ out' whole
   leads_last e = way.whole_put (appended_as put (sym e))
 
--- one more byte of a byte string
-pub bytes_more : {at i : ℕ} {a b : List ℕ} (bs : List ℕ) → Appended at (at + i) a b (take i bs) → i < length bs
-    → at + length bs ≤ length a
-    → Appended at (at + (i + 1)) a (set b (at + i) (get_or bs i 0)) (take (i + 1) bs)
-bytes_more {at} {i} {a} {b} bs p l h =
-    let lb = p.room in
-    let e : at + i + 1 ≡ at + (i + 1) = omega arith in
-    rw (add-one i, take-suc bs i 0 l)
-    (rw (← add-one i) (rw e at (appended_both p (appended_one (at + i) b (get_or bs i 0) (omega arith)))))
+-- a text written over a part of the buffer
+pub appended_part : (at k r : ℕ) (a s : List ℕ) → k ≡ length s → r ≡ at + length s → r ≤ length a
+    → Appended at r a (put_mid at k a s) s
+appended_part at k r a s e f h = record {
+  front = take-put_mid at k a s r f (omega arith);
+  rest = drop-put_mid at k a s r (omega arith) (omega arith) (sym e);
+  end = f;
+  room = omega (arith, length-append {A = ℕ}, length-take {A = ℕ}, length-drop {A = ℕ});
+}
 
 hex_append : (xs ys : List ℕ) → hex_text (xs ++ ys) ≡ hex_text xs ++ hex_text ys
 unfolding hex_text
@@ -81,18 +83,17 @@ length_hex [] = refl
 length_hex (b ∷ bs) = let h = length_hex bs in omega arith
 
 -- one more byte of a byte string in hex
-pub hex_more : {at i : ℕ} {a b : List ℕ} (bs : List ℕ) (x y : ℕ) → Appended at (at + 2 * i) a b (hex_text (take i bs))
-    → i < length bs
-    → at + 2 * length bs ≤ length a → x ≡ hex_digit_ascii (get_or bs i 0 / 16)
+pub hex_more : {at end i : ℕ} {a b : List ℕ} (bs : List ℕ) (x y : ℕ) → Appended at end a b (hex_text (take i bs))
+    → i < length bs → end + 2 ≤ length a → x ≡ hex_digit_ascii (get_or bs i 0 / 16)
     → y ≡ hex_digit_ascii (get_or bs i 0 % 16)
-    → Appended at (at + 2 * (i + 1)) a (set (set b (at + 2 * i) x) (at + 2 * i + 1) y) (hex_text (take (i + 1) bs))
+    → Appended at (end + 2) a (set (set b end x) (end + 1) y) (hex_text (take (i + 1) bs))
 unfolding hex_text
-hex_more {at} {i} {a} {b} bs x y p l h ex ey =
+hex_more {at} {end} {i} {a} {b} bs x y p l h ex ey =
     let lb = p.room in
-    let ls = length-set b (at + 2 * i) x in
-    let e : at + 2 * i + 1 + 1 ≡ at + 2 * (i + 1) = omega arith in
-    let two = appended_both (appended_one (at + 2 * i) b x (omega arith))
-    (appended_one (at + 2 * i + 1) (set b (at + 2 * i) x) y (omega arith)) in
+    let ls = length-set b end x in
+    let e : end + 1 + 1 ≡ end + 2 = omega arith in
+    let two = appended_both (appended_one end b x (omega arith))
+    (appended_one (end + 1) (set b end x) y (omega arith)) in
     let t : hex_text (take (i + 1) bs) ≡ hex_text (take i bs) ++ (x ∷ y ∷ []) =
     rw (add-one i, take-suc bs i 0 l, hex_append, ex, ey) in
     rw t (rw e at (appended_both p two))

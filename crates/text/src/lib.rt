@@ -12,15 +12,13 @@ pub fn put_bytes(out: &mut [u8], at: usize, bytes: &[u8]) -> usize
     requires { at + length bytes.now ≤ length out.old }
     ensures { Appended at result out.old out.new bytes.now }
 {
-    let mut i = 0;
-    while i < bytes.len() {
-        out[at + i] = bytes[i];
-        i += 1;
-    }
-    at + i
+    let end = at + bytes.len();
+    out[at..end].copy_from_slice(bytes);
+    end
 }
 
-// Puts a number in decimal, which takes at most 20 bytes.
+// Puts a number in decimal, which takes at most 20 bytes. The digits are the library's: `write!` would answer a Result,
+// which is no plainer.
 pub fn put_decimal(out: &mut [u8], at: usize, n: u64) -> usize
     requires { at + 20 ≤ length out.old }
     ensures { Appended at result out.old out.new (decimal_text n) }
@@ -43,13 +41,11 @@ pub fn put_hex(out: &mut [u8], at: usize, bytes: &[u8]) -> usize
     requires { at + 2 * length bytes.now ≤ length out.old }
     ensures { Appended at result out.old out.new (hex_text bytes.now) }
 {
-    let mut i = 0;
-    while i < bytes.len() {
-        let b = bytes[i];
-        let to = at + 2 * i;
-        out[to] = hex_digit(b / 16);
-        out[to + 1] = hex_digit(b % 16);
-        i += 1;
+    let mut end = at;
+    for b in bytes {
+        out[end] = hex_digit(*b / 16);
+        out[end + 1] = hex_digit(*b % 16);
+        end += 2;
     }
-    at + 2 * i
+    end
 }

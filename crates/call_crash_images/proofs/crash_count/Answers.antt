@@ -1,40 +1,30 @@
 -- `call_crash_images::crash_count` meets its contract. Cites CallLaws.antt.
-use mathlib.Core.Path.{ap}
 use lib.ListN.{length}
-use Rattle.refusal.specs.Refusals.{verdict_reply}
-use Rattle.refusal.proofs.RowLaws.{came_to}
-use Rattle.call_crash_images.specs.InnerPut.{lent_tests}
+use Rattle.std.proofs.lemmas.Result.{err_from_is_err_and}
 use Rattle.call_crash_images.proofs.CallLaws.{passed, fine_ops, count_refused, count-over, count-granted}
 use Rattle.call_crash_images.proofs.crash_count.Goals as goal
 
-pub returns-in-Fail : goal.returns-in-Fail
-returns-in-Fail c =
-    let a = c.args in
-    count_refused a.image.now a.ops.now
-    (came_to (lent_tests (length a.image.now) (length a.image.now) a.ops.now) c.in-Fail.is
-    c.lent_verdict-tested.ensures.verdict)
+pub returns-in_err-stores : goal.returns-in_err-stores
+returns-in_err-stores c =
+    let p = err_from_is_err_and c.from_residual.result c.from_residual.ensures.1 in
+    rw (p.1, p.2) (count_refused c.args.image.now c.args.ops.now c.in_err-stores.ensures.verdict)
 
-pub total_of-total-requires : goal.total_of-total-requires
-total_of-total-requires c =
+pub invariant_of-total : goal.invariant_of-total
+invariant_of-total c =
     let n = length c.args.image.now in
-    let t = c.lent_verdict-tested in (
-      fine_ops (passed n n c.args.ops.now t.result c.in_default.is t.ensures),
-      t.ensures.stores (ap verdict_reply c.in_default.is),
-    )
+    let t = c.in_ok-stores.ensures in
+    record { good = fine_ops (passed n n c.args.ops.now t); last = t.stores }
 
 pub returns-then-total-gt-MAX_CRASHES : goal.returns-then-total-gt-MAX_CRASHES
 returns-then-total-gt-MAX_CRASHES c =
     let a = c.args in
     let n = length a.image.now in
-    let t = c.lent_verdict-tested in
-    count-over a.image.now a.ops.now (passed n n a.ops.now t.result c.in_default.is t.ensures)
-    (c.total_of-total.ensures.over c.if-total-gt-MAX_CRASHES.true)
+    count-over a.image.now a.ops.now (passed n n a.ops.now c.in_ok-stores.ensures)
+    (c.total-total.ensures.over c.if-total-gt-MAX_CRASHES.true)
 
 pub returns : goal.returns
 returns c =
     let a = c.args in
     let n = length a.image.now in
-    let t = c.lent_verdict-tested in
-    count-granted a.image.now a.ops.now (passed n n a.ops.now t.result c.in_default.is t.ensures) _
-    (c.total_of-total.ensures.exact c.if-total-gt-MAX_CRASHES.false)
-    c.if-total-gt-MAX_CRASHES.false
+    count-granted a.image.now a.ops.now (passed n n a.ops.now c.in_ok-stores.ensures) _
+    (c.total-total.ensures.exact c.if-total-gt-MAX_CRASHES.false) c.if-total-gt-MAX_CRASHES.false

@@ -5,8 +5,8 @@ use Rattle.list_image.proofs.AnswerLaws.{listed_within}
 use Rattle.example.proofs.next_run.Goals as goal
 
 pub slice_bounds-text-end : goal.slice_bounds-text-end
-slice_bounds-text-end c c' = listed_within c'.list_image-listed.ensures c'.in-Text.is (omega arith)
+slice_bounds-text-end c c' = listed_within c'.list_image-listed.ensures c'.in-Some.is (omega arith)
 
 pub slice_bounds-write_all-end : goal.slice_bounds-write_all-end
 slice_bounds-write_all-end c c' =
-    sym (length-take-le _ _ (listed_within c'.list_image-listed.ensures c'.in-Text.is (omega arith)))
+    sym (length-take-le _ _ (listed_within c'.list_image-listed.ensures c'.in-Some.is (omega arith)))

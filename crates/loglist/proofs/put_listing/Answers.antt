@@ -1,12 +1,8 @@
 -- `loglist::put_listing` meets its contract: the room is enough for any text, so that a text is answered.
 -- Cites AnsweredLaws.antt of list_image.
 use Rattle.std.proofs.Common.{rules}
-use Rattle.list_image.proofs.AnsweredLaws.{never_without_text, text_put}
+use Rattle.list_image.proofs.AnsweredLaws.{text_end}
 use Rattle.loglist.proofs.put_listing.Goals as goal
 
-pub returns-in-Text : goal.returns-in-Text
-returns-in-Text c =
-    text_put c.list_bytes-listed.ensures c.requires c.in-Text.is (search rules)
-
-pub returns-in-NoRoom : goal.returns-in-NoRoom
-returns-in-NoRoom c = absurd (never_without_text c.list_bytes-listed.ensures c.requires c.in-NoRoom.is)
+pub returns : goal.returns
+returns c = rw c.unwrap_or.ensures (text_end c.list_bytes.ensures c.requires (search rules))

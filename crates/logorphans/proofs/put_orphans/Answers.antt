@@ -4,9 +4,9 @@ use Rattle.std.proofs.Common.{rules}
 use Rattle.list_image.proofs.AnsweredLaws.{never_without_text, text_put}
 use Rattle.logorphans.proofs.put_orphans.Goals as goal
 
-pub returns-in-Text : goal.returns-in-Text
-returns-in-Text c =
-    text_put c.list_orphans-listed.ensures c.requires c.in-Text.is (search rules)
+pub returns-in-Some : goal.returns-in-Some
+returns-in-Some c =
+    text_put c.list_orphans-listed.ensures c.requires c.in-Some.is (search rules)
 
-pub returns-in-NoRoom : goal.returns-in-NoRoom
-returns-in-NoRoom c = absurd (never_without_text c.list_orphans-listed.ensures c.requires c.in-NoRoom.is)
+pub returns-in-None : goal.returns-in-None
+returns-in-None c = absurd (never_without_text c.list_orphans-listed.ensures c.requires c.in-None.is)

@@ -1,40 +1,25 @@
 -- What one more read put joins what the reads before it put.
-use Rattle.std.proofs.Common.{◌≡◌, ℕ, ◌+◌, ◌-◌, ◌≤◌, List, ◌++◌, rules, arith, length, take, slice_range, sym, ap, ◌∙◌, subst, le_refl, drop_at, length-take-le}
-use Rattle.std.proofs.lemmas.Slice.{take-put_mid_below}
+use Rattle.std.proofs.Common.{◌≡◌, ℕ, ◌+◌, ◌≤◌, List, ◌++◌, rules, length, take, sym, ap, ◌∙◌, subst, length-take-le}
 use Rattle.std.specs.Io.KnownBytes.{Consumes}
 use Rattle.std.proofs.KnownBytes.{Consumes-trans}
 use borrow.Rule.Slice.PartMut.{put_mid, post_of}
-use lib.Seq.{take-add, take-append-le}
+use lib.Seq.{take-append-add, take-append-le}
 use Rattle.read_input.proofs.read_full.Goals as goal
 
--- Items up to a, and those from a up to b, are the items up to b.
-take_split : (a b : ℕ) (old new : List ℕ) → a ≤ b → take a new ≡ take a old
-    → take a old ++ slice_range new a b ≡ take b new
-take_split a b old new h front =
-    let same : a + (b - a) ≡ b = omega arith in
-    ap (λ l. l ++ slice_range new a b) (sym front) ∙ sym (take-add a (b - a) new) ∙ ap (λ n. take n new) same
-
--- Of what stands in a list's middle after it is put there, the first n items.
-slice_range-put_mid : (a k n : ℕ) (xs ys : List ℕ) → a ≤ length xs → n ≤ length ys
-    → slice_range (put_mid a k xs ys) a (a + n) ≡ take n ys
-slice_range-put_mid a k n xs ys within fits =
-    let same : (a + n) - a ≡ n = omega arith in
-    let after = post_of a k xs in
-    ap (take ((a + n) - a)) (drop_at (take a xs) (ys ++ after) a (length-take-le a xs within)) ∙
-    ap (λ m. take m (ys ++ after)) same ∙ take-append-le n ys after fits
+-- The first a items, and the first n of those that stand in the middle after them.
+take-put_mid_within : (a k n : ℕ) (xs ys : List ℕ) → a ≤ length xs → n ≤ length ys
+    → take (a + n) (put_mid a k xs ys) ≡ take a xs ++ take n ys
+take-put_mid_within a k n xs ys within fits =
+    ap (λ m. take (m + n) (put_mid a k xs ys)) (sym (length-take-le a xs within))
+    ∙ take-append-add (take a xs) (ys ++ post_of a k xs) n
+    ∙ ap (λ l. take a xs ++ l) (take-append-le n ys (post_of a k xs) fits)
 
 pub loop-done-preserved : goal.loop-done-preserved
 loop-done-preserved g c =
-    let from = c.loop-done.done in
-    let room = length c.loop-done.bytes - from in
-    let within = c.loop-done.invariant.1 in
-    let part =
-    slice_range-put_mid from room c.in_ok-n.n c.loop-done.bytes c.read.new.buf within c.in_ok-n.ensures.bound.0 in
-    let joined =
-    take_split from (from + c.in_ok-n.n) c.loop-done.bytes (put_mid from room c.loop-done.bytes c.read.new.buf)
-    (omega arith) (take-put_mid_below _ _ _ _ _ (le_refl _) within) in (
-      search rules,
-      search rules,
-      subst (Consumes _ _) (ap (λ l. take from c.loop-done.bytes ++ l) (sym part) ∙ joined)
-          (Consumes-trans _ _ _ _ _ c.loop-done.invariant.2 c.in_ok-n.ensures.bytes.0),
-    )
+    let l = c.loop-done in
+    let n = c.in_ok-n.n in record {
+      within = search rules;
+      taken = subst (Consumes _ _)
+          (sym (take-put_mid_within l.done _ n l.bytes c.read.new.buf l.invariant.within c.in_ok-n.ensures.bound.0))
+          (Consumes-trans _ _ _ _ _ l.invariant.taken c.in_ok-n.ensures.bytes.0);
+    }

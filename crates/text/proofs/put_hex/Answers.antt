@@ -1,21 +1,17 @@
 -- Cites specs/Text.antt and AppendLaws.antt.
-use mathlib.Core.Path.{ap}
-use native.Mathlib.Nat.{add-zero}
 use native.Mathlib.Omega.{arith}
-use lib.Seq.{take_all}
 use Rattle.text.specs.Text.{hex_text}
-use Rattle.text.proofs.AppendLaws.{appended_none, appended_as, hex_more}
+use Rattle.text.proofs.AppendLaws.{appended_none, hex_more}
 use Rattle.text.proofs.put_hex.Goals as goal
 
-pub loop-i-init : goal.loop-i-init
+pub loop-b-init : goal.loop-b-init
 unfolding hex_text
-loop-i-init c = (rw add-zero (appended_none _ _), omega arith)
+loop-b-init c = record { text = appended_none _ _; end_at = omega arith }
 
-pub loop-i-preserved : goal.loop-i-preserved
-loop-i-preserved c = (
-  hex_more _ _ _ c.loop-i.invariant.0 c.loop-i-test.true c.requires c.hex_digit.ensures c.hex_digit-in-loop-i.ensures,
-  omega arith,
-)
-
-pub returns : goal.returns
-returns c = appended_as c.loop-i.invariant.0 (ap hex_text (take_all c.loop-i.i c.args.bytes.now (omega arith)))
+pub loop-b-preserved : goal.loop-b-preserved
+loop-b-preserved c = record {
+  text =
+      hex_more _ _ _ c.loop-b.invariant.text c.loop-b-test.true (omega arith) c.hex_digit.ensures
+      c.hex_digit-in-loop-b.ensures;
+  end_at = omega arith;
+}

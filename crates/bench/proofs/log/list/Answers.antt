@@ -3,8 +3,8 @@ use Rattle.std.proofs.Common.{arith}
 use Rattle.list_image.proofs.AnswerLaws.{listed_within}
 use Rattle.bench.proofs.log.list.Goals as goal
 
-pub returns-in-Text : goal.returns-in-Text
-returns-in-Text c =
+pub returns-in-Some : goal.returns-in-Some
+returns-in-Some c =
     let kept = c.list_image-listed.auto.out in
-    let within = listed_within c.list_image-listed.ensures c.in-Text.is (omega arith) in
+    let within = listed_within c.list_image-listed.ensures c.in-Some.is (omega arith) in
     omega arith

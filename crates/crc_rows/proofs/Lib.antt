@@ -1,0 +1,2 @@
+-- `Rows`: the table is what the definition says.
+pub mod Rows
