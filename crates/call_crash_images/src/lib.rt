@@ -66,6 +66,17 @@ fn checked_words(n: usize, room: usize, ops: &[u64]) -> Result<usize, Refusal>
     checked_ops(n, ops)
 }
 
+// Copies an image into words of its length. A loop, since for slices that callers lend copy_from_slice would be a call of
+// memmove, which the archive needs for nothing else.
+fn copy_image(image: &[u64], output: &mut [u64])
+    requires { length image.now ≡ length output.old }
+    ensures { left output ≡ image.now }
+{
+    for w in 0..image.len() {
+        output[w] = image[w];
+    }
+}
+
 // Puts the value that is flushed after k ops of the word that op j stores to.
 fn put_flushed_of(image: &[u64], ops: &[u64], k: usize, j: usize, output: &mut [u64])
     requires { GoodOps (length image.now) ops.now × (length image.now ≡ length output.old)
@@ -220,7 +231,7 @@ impl<'a> Crashes<'a> {
         requires { (length self.now.image.now ≡ length output.old) × (k * 3 ≤ length self.now.ops.now) }
         ensures { FlushedWords self.now.image.now (ops_of self.now.ops.now) k (left output) }
     {
-        output.copy_from_slice(self.image);
+        copy_image(self.image, output);
         for j in 0..k.min(self.stores) {
             put_flushed_of(self.image, self.ops, k, j, output);
         }

@@ -8,8 +8,8 @@ use Rattle.call_crash_images.proofs.Crashes.put_flushed.Goals as goal
 pub loop-j-init : goal.loop-j-init
 loop-j-init c =
     let s = c.args.self.now in (
-      flushed_start s.image.now (ops_of s.ops.now) c.args.k _ c.copy_from_slice.ensures.after,
-      ap length c.copy_from_slice.ensures.after,
+      flushed_start s.image.now (ops_of s.ops.now) c.args.k _ c.copy_image.ensures,
+      ap length c.copy_image.ensures,
     )
 
 pub loop-j-preserved : goal.loop-j-preserved
