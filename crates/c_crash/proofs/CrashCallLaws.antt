@@ -1,4 +1,5 @@
 -- What a call about crashes answers is small. Cites InnerReport.antt, and CrashImages.antt of crash_images.
+use mathlib.Core.Path.{◌≡◌, refl}
 use mathlib.Core.List.{List}
 use Prim.Native.Nat.{ℕ, ◌≤◌}
 use native.Mathlib.Omega.{arith}
@@ -10,6 +11,8 @@ use Rattle.device.specs.Crash.{power_up}
 use Rattle.crash_images.specs.CrashImages.{max_crashes, total, count_tests, count_reply, Crash, crash_number, crash_tests, crash_reply, point_reply}
 use Rattle.device.specs.ReadOps.{ops_of}
 use Rattle.crash_images.proofs.PointLaws.{point_below}
+use Rattle.c_reply.specs.ByteAnswer.{signed}
+use Rattle.c_reply.specs.ReplyWords.{reply_after}
 use Rattle.c_crash.specs.InnerReport.{number_in}
 
 -- a number that is granted is at most the most
@@ -38,3 +41,13 @@ point_small image buffer i room =
       leb-false (total image (ops_of buffer)) i (first_passes (rest_pass (rest_pass (rest_pass p)))),
     )
     go (failed w) = omega arith
+
+-- a point as a number
+pub signed_point : (o : Reply Crash) → signed (λ n. n) (point_reply o) ≡ signed (λ (c : Crash). c.point) o
+signed_point (ok c) = refl
+signed_point (refused w) = refl
+
+pub told_point : (o : Reply Crash) (reply : List ℕ)
+    → reply_after (λ n. 0) 0 (point_reply o) reply ≡ reply_after (λ (c : Crash). 0) 0 o reply
+told_point (ok c) reply = refl
+told_point (refused w) reply = refl

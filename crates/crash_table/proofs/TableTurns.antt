@@ -3,8 +3,9 @@
 use mathlib.Core.Path.{◌≡◌, refl, sym, ◌∙◌, ap}
 use mathlib.Core.Bool.{Bool, true, false, cond, ◌&&◌}
 use mathlib.Core.List.{List, [], ◌∷◌, reverse}
-use Prim.Native.Nat.{ℕ, suc, ◌+◌, ◌≤◌, ◌<◌}
+use Prim.Native.Nat.{ℕ, suc, ◌+◌, ◌*◌, ◌≤◌, ◌<◌}
 use native.Mathlib.Omega.{arith}
+use native.Mathlib.Nat.{mul-le-mul, div-le_self}
 use lib.ListN.{length, get_or, set, take, length-set, length-take, length-reverse}
 use lib.Seq.{get_or-set_other}
 use lib.Dec.{eqb}
@@ -20,6 +21,12 @@ use Rattle.crash_images.specs.InnerSteps.{entry, entries_of, in_table, without, 
 use Rattle.crash_images.proofs.TableLaws.{newest_turn, newest_put}
 use Rattle.crash_images.proofs.StepTotals.{count_kept}
 use Rattle.crash_table.specs.InnerTable.{more_images}
+
+-- the images of one entry more fit
+pub more_fits : (images c : ℕ) → images ≤ 4096 → c ≤ 90 → more_images images c ≤ 4096 * 92
+more_fits images c h k =
+    let p = div-le_self images (1 + c) in
+    mul-le-mul {n₂ = 4096} {m₂ = 92} (omega arith) (omega arith)
 
 pub eqb_swap : (a b : ℕ) → eqb a b ≡ eqb b a
 eqb_swap a b = go (eqb b a) refl
