@@ -17,7 +17,7 @@
  * drivelog_list the rows of 257 records, 8 KB, and less than 4 KB more.
  *
  * Time: every call but drivelog_payload_at tests the superline, then reads the whole log and computes the check of every record,
- * whatever it is asked; a payload is copied after that. On a full image of the largest size a call takes 25 to 41 microseconds
+ * whatever it is asked; a payload is copied after that. On a full image of the largest size a call takes 25 to 40 microseconds
  * (docs/SPEED.md), so that to ask one record at a time, count and then kind, LSN and payload of 64 records, takes 193 calls and 5 to
  * 9 milliseconds. To go through all records, ask drivelog_list once, and drivelog_payload_at for the payloads that matter.
  */
