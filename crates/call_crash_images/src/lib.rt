@@ -66,7 +66,7 @@ fn checked_words(n: usize, room: usize, ops: &[u64]) -> Result<usize, Refusal>
     checked_ops(n, ops)
 }
 
-// Copies an image into words of its length. A loop, since for slices that callers lend copy_from_slice would be a call of
+// Copies an image into words of its length. A loop, since for two slices that a caller lends copy_from_slice would be a call of
 // memmove, which the archive needs for nothing else.
 fn copy_image(image: &[u64], output: &mut [u64])
     requires { length image.now ≡ length output.old }
